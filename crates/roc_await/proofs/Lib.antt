@@ -7,7 +7,6 @@ pub mod Taking
 pub mod Releases
 pub mod ShorterGroups
 pub mod Regrouped
-pub mod Asking
 pub mod Counted
 pub mod PutInPlace
 pub mod Orders

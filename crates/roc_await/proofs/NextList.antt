@@ -9,7 +9,7 @@ use Rattle.roc_base.specs.Equalities.{is_txn-true, is_txn-same}
 use Rattle.roc_depgraph.specs.declared.known.KnownList.{KnownList}
 use Rattle.roc_depgraph.specs.Deps.{list_of}
 use Rattle.roc_await.specs.declared.lack.Lack.{Lack}
-use Rattle.roc_await.specs.Learning.{AreLearnable}
+use Rattle.roc_step.specs.Learning.{AreLearnable}
 use Rattle.roc_await.specs.Inner.Taken.{AreLacksTaken}
 
 -- ---- in two lists, one behind the other

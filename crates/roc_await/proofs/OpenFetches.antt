@@ -8,9 +8,9 @@ use Rattle.roc_sequence.proofs.Holds.{all_has, has_all}
 use Rattle.roc_sequence.proofs.Members.{has_append, has_left, has_right, has_filter, from_has_filter}
 use Rattle.roc_base.specs.declared.id.TxnId.{TxnId}
 use Rattle.roc_base.specs.TxnId.{is_txn}
-use Rattle.roc_await.specs.declared.waits.OpenFetch.{OpenFetch}
-use Rattle.roc_await.specs.declared.waits.Asker.{Asker}
-use Rattle.roc_await.specs.Waits.{AreKept, is_asked_before, is_asker_before, shard_asked, was_asked_for, with_all_asked, with_asked, with_asker, without_askers_of, without_fetch_of}
+use Rattle.roc_step.specs.declared.waits.OpenFetch.{OpenFetch}
+use Rattle.roc_step.specs.declared.waits.Asker.{Asker}
+use Rattle.roc_step.specs.Waits.{AreKept, is_asked_before, is_asker_before, shard_asked, was_asked_for, with_all_asked, with_asked, with_asker, without_askers_of, without_fetch_of}
 use Rattle.roc_await.proofs.Orders.{asked_order, asker_order}
 use Rattle.roc_await.proofs.PutInPlace.{order_in_place, order_some}
 

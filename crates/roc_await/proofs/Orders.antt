@@ -6,8 +6,8 @@ use Rattle.roc_base.specs.declared.id.TxnId.{TxnId}
 use Rattle.roc_base.specs.TxnId.{is_txn, txn_lt}
 use Rattle.roc_base.specs.Equalities.{is_txn-true}
 use Rattle.roc_base.proofs.Ids.{txn_lt-asym, txn_lt-trans}
-use Rattle.roc_await.specs.declared.waits.Asker.{Asker}
-use Rattle.roc_await.specs.Waits.{is_asked_before, is_asker_before}
+use Rattle.roc_step.specs.declared.waits.Asker.{Asker}
+use Rattle.roc_step.specs.Waits.{is_asked_before, is_asker_before}
 use Rattle.roc_await.proofs.PutInPlace.{IsOrder}
 
 pub asked_order : IsOrder is_asked_before

@@ -4,7 +4,7 @@ use Rattle.std.proofs.lemmas.Bool.{false≢true}
 use Rattle.std.specs.List.{AllByRecursion}
 use Rattle.roc_sequence.proofs.Holds.{all_append}
 use Rattle.roc_msg.specs.InPlace.{in_place}
-use Rattle.roc_await.specs.Waits.{AreInOrder}
+use Rattle.roc_step.specs.Waits.{AreInOrder}
 use Rattle.roc_await.specs.Inner.Apart.{is_apart}
 
 -- what comes before another does not come behind it, and comes before all that this one comes before

@@ -1,4 +1,3 @@
-pub mod Waits
 pub mod Lacks
 pub mod Learning
 pub mod Released

@@ -2,7 +2,7 @@
 //!
 //! [`Waits`] keeps the transactions whose lists a server asked for, each with the shard that it asked, which of them are
 //! open, as their lists were not taken since, and who asked it for lists that it does not know. Contracts see it as an
-//! `Awaited` (`specs/Waits.antt`): the three lists, in order and each kept once (`AreKept`, an invariant of the type), and
+//! `Awaited` (`specs/Waits.antt` of `roc_step`): the three lists, in order and each kept once (`AreKept`, an invariant of the type), and
 //! how many more calls of [`Waits::ask`] or [`Waits::keep_asker`] cannot fail. Each call changes them exactly as its
 //! definition says; one that finds no memory leaves them as they were. Only [`Waits::ask`], [`Waits::keep_asker`] and
 //! [`Waits::reserve`] need any, and none where `spare` suffices; each of the first two takes at most one of it.
@@ -28,4 +28,5 @@ mod waits;
 
 pub use lack::Lack;
 pub use lacks::{Lacks, NextLacks};
-pub use waits::{Asker, OpenFetch, Waits};
+pub use roc_step::{Asker, OpenFetch};
+pub use waits::Waits;

@@ -3,27 +3,14 @@ ghost use Rattle.std.specs.Prelude.{◌≡◌, ◌+◌, ◌<◌, ◌≤◌, leng
 ghost use Rattle.std.specs.List.Sorted.{IsStrictlySortedBy};
 ghost use Rattle.roc_base.specs.TxnId.{is_txn, txn_cmp, txn_lt};
 ghost use Rattle.roc_sequence.specs.Places.{is_listed};
-ghost use Rattle.roc_await.specs.Waits.{askers_of, is_asked_before, is_asker_before, with_asked, with_asker, without_askers_of, without_fetch_of, AreInOrder};
+ghost use Rattle.roc_step.specs.Waits.{askers_of, is_asked_before, is_asker_before, with_asked, with_asker, without_askers_of, without_fetch_of, AreInOrder};
 ghost use Rattle.roc_await.specs.Inner.Apart.{is_apart};
 
 use roc_base::{NoMemory, Shard, TxnId};
 use roc_depgraph::is_among_rising;
+use roc_step::{Asker, OpenFetch};
 use std::alloc::Global;
 use std::marker::Model;
-
-/// A transaction whose list was asked for, and the shard that was asked.
-#[derive(Clone, Copy)]
-pub struct OpenFetch {
-    pub id: TxnId,
-    pub at: Shard,
-}
-
-/// A shard that asked for the list of a transaction.
-#[derive(Clone, Copy)]
-pub struct Asker {
-    pub id: TxnId,
-    pub shard: Shard,
-}
 
 /// What a server waits for, and who waits for it.
 #[derive(Drop)]
@@ -36,7 +23,7 @@ pub struct Waits {
 
 impl Model for Waits {
     ghost use Rattle.std.specs.Prelude.{◌-◌, min, vec_len, vec_capacity};
-    ghost use Rattle.roc_await.specs.Waits.{AreKept, Awaited};
+    ghost use Rattle.roc_step.specs.Waits.{AreKept, Awaited};
 
     ghost Value = { Awaited };
 
@@ -54,7 +41,7 @@ impl Waits {
     ghost use Rattle.std.specs.List.Sorted.{IsStrictlySortedBy};
     ghost use Rattle.roc_base.specs.TxnId.{is_txn, txn_cmp};
     ghost use Rattle.roc_sequence.specs.Places.{is_listed};
-    ghost use Rattle.roc_await.specs.Waits.{askers_of, none_waiting, shard_asked, with_asked, with_asker, without_asked, without_askers_of, without_fetch_of};
+    ghost use Rattle.roc_step.specs.Waits.{askers_of, none_waiting, shard_asked, with_asked, with_asker, without_asked, without_askers_of, without_fetch_of};
 
     /// Nothing was asked for, and nobody has asked. Takes no memory.
     pub fn new(alloc: Global) -> Waits

@@ -5,9 +5,9 @@ use Rattle.roc_base.specs.declared.node.Shard.{Shard}
 use Rattle.roc_msg.specs.declared.msg.Msg.{Msg}
 use Rattle.roc_msg.specs.declared.outbox.Outgoing.{Outgoing}
 use Rattle.roc_plan.specs.Groups.{Plan}
-use Rattle.roc_server.specs.Reads.{AnswersReads, ReadStep}
-use Rattle.roc_server.specs.State.{ServerState, ServerStep, Viewing}
-use Rattle.roc_server.specs.Step.{Handles}
+use Rattle.roc_step.specs.Reads.{AnswersReads, ReadStep}
+use Rattle.roc_step.specs.State.{ServerState, ServerStep, Viewing}
+use Rattle.roc_step.specs.Step.{Handles}
 use Rattle.roc_coord.specs.State.{CoordState}
 use Rattle.roc_law_nodes.specs.Own.{OwnEvent, delivered, ticked, requested}
 use Rattle.roc_law_nodes.specs.Fold.{ServerSteps, IsServerFold, server_begun, server_goes_on, CoordSteps, IsCoordFold, coord_begun, coord_goes_on}

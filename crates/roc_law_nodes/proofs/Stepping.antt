@@ -8,8 +8,8 @@ use Rattle.roc_base.specs.Node.{is_node}
 use Rattle.roc_msg.specs.declared.msg.Envelope.{Envelope}
 use Rattle.roc_msg.specs.declared.outbox.Outgoing.{Outgoing}
 use Rattle.roc_plan.specs.Groups.{Plan, is_view_of}
-use Rattle.roc_server.specs.State.{ServerState, Viewing}
-use Rattle.roc_server.specs.Step as server
+use Rattle.roc_step.specs.State.{ServerState, Viewing}
+use Rattle.roc_step.specs.Step as server
 use Rattle.roc_coord.specs.declared.handled.SubmitFault.{SubmitFault}
 use Rattle.roc_coord.specs.declared.handled.SubmitFault.TheVariants as fault
 use Rattle.roc_coord.specs.State.{CoordState}

@@ -9,9 +9,9 @@ use Rattle.roc_base.specs.declared.node.Node.{Node}
 use Rattle.roc_base.specs.declared.node.Node.TheVariants.{Server, Coord}
 use Rattle.roc_msg.specs.declared.outbox.Outgoing.{Outgoing}
 use Rattle.roc_plan.specs.Groups.{Plan}
-use Rattle.roc_server.specs.First.{first_server}
-use Rattle.roc_server.specs.Reads.{first_viewing}
-use Rattle.roc_server.specs.State.{ServerState, Viewing}
+use Rattle.roc_step.specs.First.{first_server}
+use Rattle.roc_step.specs.Reads.{first_viewing}
+use Rattle.roc_step.specs.State.{ServerState, Viewing}
 use Rattle.roc_coord.specs.State.{first_coord, CoordState}
 use Rattle.roc_views.specs.World.{World}
 use Rattle.roc_views.specs.Run.{Stepped, IsRun, at_beginning, steps_on}

@@ -16,10 +16,10 @@ ghost use Rattle.roc_law_nodes.specs.Fold.{IsServerFold, IsCoordFold};
 ghost use Rattle.roc_law_nodes.specs.Own.{OwnEvent, own_events, messages_of};
 ghost use Rattle.roc_law_nodes.specs.Turns.{turns_bring, is_for_core, AreTurnsOf, HasTurn, is_request, coord_owns, AreBrought};
 ghost use Rattle.roc_sched.specs.declared.line.Request.{Request};
-ghost use Rattle.roc_server.specs.State.{ServerState, Viewing};
+ghost use Rattle.roc_step.specs.State.{ServerState, Viewing};
 ghost use Rattle.roc_wire.specs.declared.header.Header.{Header};
 
-use roc_server::laws::{read_step_is_one, step_is_one};
+use roc_step::laws::{read_step_is_one, step_is_one};
 use roc_wire::laws::spelled_is_read;
 
 /// In every run of the world, the state of each node and the messages that the world has from it, in the order in which it sent them,

@@ -6,12 +6,12 @@ use Rattle.roc_io.specs.Link.{LinkEvent, sending, receiving, came, none_came, va
 use Rattle.roc_io.specs.Packet.{Packet}
 use Rattle.roc_msg.specs.declared.msg.Msg.{Msg}
 use Rattle.roc_msg.specs.declared.outbox.Outgoing.{Outgoing}
-use Rattle.roc_server.specs.First.{first_server}
+use Rattle.roc_step.specs.First.{first_server}
 use Rattle.roc_msg.specs.Outbox.{Collected}
-use Rattle.roc_server.specs.declared.handled.Handled.{Handled}
-use Rattle.roc_server.specs.Step.{Handles, Shows}
-use Rattle.roc_server.specs.Reads.{first_viewing, AnswersReads, ReadStep}
-use Rattle.roc_server.specs.State.{ServerState, ServerStep, Viewing}
+use Rattle.roc_step.specs.declared.handled.Handled.{Handled}
+use Rattle.roc_step.specs.Step.{Handles, Shows}
+use Rattle.roc_step.specs.Reads.{first_viewing, AnswersReads, ReadStep}
+use Rattle.roc_step.specs.State.{ServerState, ServerStep, Viewing}
 use Rattle.roc_node.specs.Posting.{Hearsay, none_heard, packets_for}
 use Rattle.roc_node.specs.Judgement.{judged}
 use Rattle.roc_node.specs.declared.judging.Judged.{Judged}

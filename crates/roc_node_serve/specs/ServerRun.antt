@@ -10,12 +10,12 @@ use Rattle.roc_msg.specs.declared.msg.Msg.TheVariants.{Stop}
 use Rattle.roc_msg.specs.declared.outbox.Outgoing.{Outgoing}
 use Rattle.roc_plan.specs.Groups.{Plan}
 use Rattle.roc_wire.specs.declared.header.Header.{Header}
-use Rattle.roc_server.specs.declared.handled.Handled.{Handled}
-use Rattle.roc_server.specs.declared.handled.Handled.TheVariants.{Done, Gone, Ignored}
-use Rattle.roc_server.specs.First.{first_server}
-use Rattle.roc_server.specs.Reads.{first_viewing, AnswersReads, ReadStep}
-use Rattle.roc_server.specs.State.{ServerState, ServerStep, Viewing}
-use Rattle.roc_server.specs.Step.{Handles, tick_sends}
+use Rattle.roc_step.specs.declared.handled.Handled.{Handled}
+use Rattle.roc_step.specs.declared.handled.Handled.TheVariants.{Done, Gone, Ignored}
+use Rattle.roc_step.specs.First.{first_server}
+use Rattle.roc_step.specs.Reads.{first_viewing, AnswersReads, ReadStep}
+use Rattle.roc_step.specs.State.{ServerState, ServerStep, Viewing}
+use Rattle.roc_step.specs.Step.{Handles, tick_sends}
 use Rattle.roc_node.specs.Judgement.{judged}
 use Rattle.roc_node.specs.declared.judging.Judged.{Judged}
 use Rattle.roc_node.specs.declared.judging.Judged.TheVariants.{Delivery, Skipped}

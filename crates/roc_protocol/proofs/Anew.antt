@@ -7,8 +7,8 @@ use Rattle.roc_rows.specs.Store.{read}
 use Rattle.roc_plan.specs.Groups.{Plan, shard_of}
 use Rattle.roc_whole.specs.Serial.{serial_store}
 use Rattle.roc_law_log.specs.Scheme.{Scheme, IsSoundScheme}
-use Rattle.roc_server.specs.Below.{is_ended}
-use Rattle.roc_server.specs.State.{ServerState}
+use Rattle.roc_step.specs.Below.{is_ended}
+use Rattle.roc_step.specs.State.{ServerState}
 use Rattle.roc_coord.specs.State.{CoordState}
 use Rattle.roc_coord.specs.Submit.{most_transactions}
 use Rattle.roc_audit.specs.Witness.{submitted_calls}

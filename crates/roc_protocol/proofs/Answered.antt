@@ -13,8 +13,8 @@ use Rattle.roc_whole.specs.Serial as whole
 use Rattle.roc_law_log.specs.Scheme.{Scheme, IsSoundScheme}
 use Rattle.roc_law_log.specs.Log.{Log}
 use Rattle.roc_law_log.specs.Invariants.{LogInvariants}
-use Rattle.roc_server.specs.declared.started.StartedGroup.{StartedGroup}
-use Rattle.roc_server.specs.State.{ServerState}
+use Rattle.roc_step.specs.declared.started.StartedGroup.{StartedGroup}
+use Rattle.roc_step.specs.State.{ServerState}
 use Rattle.roc_coord.specs.declared.transaction.Transaction.{Transaction}
 use Rattle.roc_coord.specs.State.{CoordState}
 use Rattle.roc_audit.specs.declared.entry.Entry.TheVariants.{Submitted, Answered}
@@ -28,7 +28,7 @@ use Rattle.roc_protocol.specs.Inner.Given.{LogLaws, StoreLaws}
 use Rattle.roc_msg.specs.declared.msg.Envelope.{Envelope}
 use Rattle.roc_msg.specs.declared.msg.Msg.{Msg}
 use Rattle.roc_msg.specs.declared.msg.Msg.TheVariants.{Ended}
-use Rattle.roc_server.specs.Below.{is_ended}
+use Rattle.roc_step.specs.Below.{is_ended}
 use Rattle.roc_protocol.proofs.Means.{entry_run, Means, IsOther}
 use Rattle.roc_protocol.proofs.Gone.{here_stays}
 use Rattle.roc_protocol.proofs.Submissions.{AreSubmissions}

@@ -11,8 +11,8 @@ use Rattle.roc_msg.specs.declared.msg.Msg.TheVariants.{StartOk, ReadOk}
 use Rattle.roc_msg.specs.declared.msg.Envelope.{Envelope}
 use Rattle.roc_msg.specs.declared.outbox.Outgoing.{Outgoing}
 use Rattle.roc_plan.specs.Groups.{Plan}
-use Rattle.roc_server.specs.State.{answered, ServerState}
-use Rattle.roc_server.specs.Step as server
+use Rattle.roc_step.specs.State.{answered, ServerState}
+use Rattle.roc_step.specs.Step as server
 use Rattle.roc_coord.specs.declared.transaction.Transaction.{Transaction}
 use Rattle.roc_coord.specs.declared.transaction.TakenStart.{TakenStart}
 use Rattle.roc_coord.specs.State.{CoordState}

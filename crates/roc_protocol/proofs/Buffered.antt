@@ -18,9 +18,9 @@ use Rattle.roc_law_log.specs.Scheme.{Scheme}
 use Rattle.roc_law_log.specs.Log.{Log, IsWhole}
 use Rattle.roc_law_log.specs.Steps.{waits_here}
 use Rattle.roc_law_log.specs.Invariants.{LogInvariants}
-use Rattle.roc_server.specs.declared.started.StartedGroup.{StartedGroup}
-use Rattle.roc_server.specs.State.{is_group, find_group, ServerState}
-use Rattle.roc_server.specs.Runs.{count_of_groups, groups_here, buffered_here, outs_here}
+use Rattle.roc_step.specs.declared.started.StartedGroup.{StartedGroup}
+use Rattle.roc_step.specs.State.{is_group, find_group, ServerState}
+use Rattle.roc_step.specs.Runs.{count_of_groups, groups_here, buffered_here, outs_here}
 use Rattle.roc_protocol.specs.Beginnings.{Beginning}
 use Rattle.roc_protocol.specs.PlanAssumptions.{IsSchemeOf}
 use Rattle.roc_protocol.proofs.Means.{run_of, entry_run, place, Ran, Began, stage, waits_at, DoneMeans, AreGroupsHere, ServerMeans}

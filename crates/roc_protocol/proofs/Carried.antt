@@ -14,8 +14,8 @@ use Rattle.roc_base.specs.Equalities.{is_txn-true, is_txn-same}
 use Rattle.roc_base.specs.Edge.{Dependency}
 use Rattle.roc_depgraph.specs.declared.known.KnownList.{KnownList}
 use Rattle.roc_depgraph.specs.Deps.{list_of, is_known, IsKnown}
-use Rattle.roc_await.specs.declared.waits.OpenFetch.{OpenFetch}
-use Rattle.roc_await.specs.Waits.{was_asked_for, askers_of}
+use Rattle.roc_step.specs.declared.waits.OpenFetch.{OpenFetch}
+use Rattle.roc_step.specs.Waits.{was_asked_for, askers_of}
 use Rattle.roc_msg.specs.declared.msg.Msg.{Msg}
 use Rattle.roc_msg.specs.declared.msg.Msg.TheVariants.{Start, StartOk, Commit, CommitOk, Fetch, Known, Ended, Settled, Read}
 use Rattle.roc_msg.specs.declared.outbox.Outgoing.{Outgoing}
@@ -23,17 +23,17 @@ use Rattle.roc_msg.specs.declared.reason.Reason.TheVariants.{NotHere, Foreign}
 use Rattle.roc_msg.specs.Facts.{is_fact_before}
 use Rattle.roc_plan.specs.Groups.{Plan}
 use Rattle.roc_group.specs.GroupRun.{GroupCall, call}
-use Rattle.roc_server.specs.declared.started.StartedGroup.{StartedGroup}
-use Rattle.roc_server.specs.State.{refused, ignored, answered, is_here, is_group, find_group, Lists, ServerState, ServerStep, unrun, hearing}
-use Rattle.roc_server.specs.Below.{is_ended, mark_of}
-use Rattle.roc_server.specs.Forgets.{forget, forgetting}
-use Rattle.roc_server.specs.Start.{start_refusal, start_taken, start_judged, startok_of, new_group}
-use Rattle.roc_server.specs.Runs.{commitok_of}
-use Rattle.roc_server_lists.specs.Carried.{list_with, carried, unknown_of}
-use Rattle.roc_server_lists.specs.Asking.{known_to, knowns_for, fetch_from}
-use Rattle.roc_server_lists.proofs.SameIds.{ids_of, ids_without, known_alike}
-use Rattle.roc_server.specs.Lists.{lists_after, missing_after, decides, taught, commit_refusal, after_commit, fetch_taken, settled_to, after_fetch, known_refusal, after_known, after_ended, is_settled, lists_settled, after_settled}
-use Rattle.roc_server.specs.Step.{Findings, AreFindings, Handles, after_message, tick_sends}
+use Rattle.roc_step.specs.declared.started.StartedGroup.{StartedGroup}
+use Rattle.roc_step.specs.State.{refused, ignored, answered, is_here, is_group, find_group, Lists, ServerState, ServerStep, unrun, hearing}
+use Rattle.roc_step.specs.Below.{is_ended, mark_of}
+use Rattle.roc_step.specs.Forgets.{forget, forgetting}
+use Rattle.roc_step.specs.Start.{start_refusal, start_taken, start_judged, startok_of, new_group}
+use Rattle.roc_step.specs.Runs.{commitok_of}
+use Rattle.roc_step.specs.Carried.{list_with, carried, unknown_of}
+use Rattle.roc_step.specs.Asking.{known_to, knowns_for, fetch_from}
+use Rattle.roc_step.proofs.SameIds.{ids_of, ids_without, known_alike}
+use Rattle.roc_step.specs.Lists.{lists_after, missing_after, decides, taught, commit_refusal, after_commit, fetch_taken, settled_to, after_fetch, known_refusal, after_known, after_ended, is_settled, lists_settled, after_settled}
+use Rattle.roc_step.specs.Step.{Findings, AreFindings, Handles, after_message, tick_sends}
 use Rattle.roc_protocol.specs.Final.{lists_in}
 use Rattle.roc_protocol.proofs.Facts.{facts_known}
 use Rattle.roc_protocol.proofs.Served.{list_has}
@@ -41,11 +41,11 @@ use Rattle.roc_protocol.proofs.KeptGroups.{take_keeps, take_same}
 use Rattle.roc_protocol.proofs.OneGroupMore.{find_front, find_last, here_more}
 use Rattle.roc_protocol.proofs.Gone.{IsGone, gone_same, gone_hears, gone_begins, gone_taught}
 use Rattle.roc_protocol.proofs.ForgottenHere.{forgotten, was_there, gone_still, here_or_gone, found_or_gone, same_left, same_learnt}
-use Rattle.roc_server.proofs.Raised.{ended_still}
+use Rattle.roc_step.proofs.Raised.{ended_still}
 use Rattle.roc_protocol.proofs.MarksKept.{below_mark}
 use Rattle.roc_protocol.proofs.Taking.{starts_here, commits_here}
-use Rattle.roc_server.specs.declared.handled.Handled.{Handled}
-use Rattle.roc_server.specs.declared.handled.Handled.TheVariants.{Done, Ignored, Gone}
+use Rattle.roc_step.specs.declared.handled.Handled.{Handled}
+use Rattle.roc_step.specs.declared.handled.Handled.TheVariants.{Done, Ignored, Gone}
 use Rattle.roc_protocol.proofs.ReadsHere.{for_read}
 
 -- ---- a step of a server

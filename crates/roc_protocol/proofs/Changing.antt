@@ -17,8 +17,8 @@ use Rattle.roc_law_log.specs.Log.{Log, PrecedesTxn}
 use Rattle.roc_law_log.specs.Settled.{IsSettled}
 use Rattle.roc_law_log.specs.Steps.{IsReachedLog}
 use Rattle.roc_law_log.specs.Invariants.{LogInvariants, LogGrows}
-use Rattle.roc_server.specs.State.{is_here, ServerState, Lists, unrun}
-use Rattle.roc_server.specs.Below.{is_ended}
+use Rattle.roc_step.specs.State.{is_here, ServerState, Lists, unrun}
+use Rattle.roc_step.specs.Below.{is_ended}
 use Rattle.roc_protocol.specs.PlanAssumptions.{IsSchemeOf}
 use Rattle.roc_protocol.specs.Beginnings.{Beginning}
 use Rattle.roc_protocol.specs.Inner.Given.{LogLaws}

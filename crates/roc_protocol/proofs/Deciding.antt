@@ -35,11 +35,11 @@ use Rattle.roc_law_log.specs.Log.{Log, PrecedesTxn, IsWhole}
 use Rattle.roc_law_log.specs.Settled.{IsSettled}
 use Rattle.roc_law_log.specs.Steps.{MayDecide, IsWaived, waits_here, waiting_here, new_in, with_decision, IsReachedLog, LogStep, shard_decides, no_steps, one_step_more}
 use Rattle.roc_law_log.specs.Invariants.{LogInvariants, LogGrows}
-use Rattle.roc_server.specs.declared.started.StartedGroup.{StartedGroup}
-use Rattle.roc_server.specs.State.{is_group, is_here, find_group, ServerState, Lists}
-use Rattle.roc_server_lists.specs.New.{AreNewTaken}
-use Rattle.roc_server.specs.Runs.{count_of_groups, groups_here, buffered_here, take_all}
-use Rattle.roc_await.specs.declared.waits.OpenFetch.{OpenFetch}
+use Rattle.roc_step.specs.declared.started.StartedGroup.{StartedGroup}
+use Rattle.roc_step.specs.State.{is_group, is_here, find_group, ServerState, Lists}
+use Rattle.roc_step.specs.New.{AreNewTaken}
+use Rattle.roc_step.specs.Runs.{count_of_groups, groups_here, buffered_here, take_all}
+use Rattle.roc_step.specs.declared.waits.OpenFetch.{OpenFetch}
 use Rattle.roc_protocol.specs.PlanAssumptions.{IsSchemeOf}
 use Rattle.roc_protocol.specs.Beginnings.{Beginning}
 use Rattle.roc_protocol.specs.Inner.Given.{LogLaws}

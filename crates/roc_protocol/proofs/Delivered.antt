@@ -13,17 +13,17 @@ use Rattle.roc_base.specs.declared.node.Shard.{Shard}
 use Rattle.roc_base.specs.Edge.{Dependency}
 use Rattle.roc_depgraph.specs.declared.known.KnownList.{KnownList}
 use Rattle.roc_depgraph.specs.Deps.{IsKnown, IsDecided}
-use Rattle.roc_await.specs.declared.waits.OpenFetch.{OpenFetch}
-use Rattle.roc_await.specs.declared.waits.Asker.{Asker}
+use Rattle.roc_step.specs.declared.waits.OpenFetch.{OpenFetch}
+use Rattle.roc_step.specs.declared.waits.Asker.{Asker}
 use Rattle.roc_msg.specs.declared.msg.Msg.{Msg}
 use Rattle.roc_msg.specs.declared.msg.Msg.TheVariants.{Start, StartOk, Commit, CommitOk, Fetch, Known, Settled}
 use Rattle.roc_msg.specs.declared.msg.Envelope.{Envelope}
 use Rattle.roc_msg.specs.declared.outbox.Outgoing.{Outgoing}
 use Rattle.roc_plan.specs.Groups.{Plan}
-use Rattle.roc_server.specs.State.{is_here, ServerState, ServerStep}
-use Rattle.roc_server.specs.Start.{startok_of}
-use Rattle.roc_server.specs.Below.{is_ended}
-use Rattle.roc_server_lists.specs.Asking.{fetch_from}
+use Rattle.roc_step.specs.State.{is_here, ServerState, ServerStep}
+use Rattle.roc_step.specs.Start.{startok_of}
+use Rattle.roc_step.specs.Below.{is_ended}
+use Rattle.roc_step.specs.Asking.{fetch_from}
 use Rattle.roc_protocol.specs.World.{sent_by}
 use Rattle.roc_protocol.specs.Quiet.{IsToldIn}
 use Rattle.roc_protocol.proofs.Changed.{get-front}

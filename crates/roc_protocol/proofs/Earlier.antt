@@ -19,8 +19,8 @@ use Rattle.roc_msg.specs.declared.msg.Envelope.{Envelope}
 use Rattle.roc_plan.specs.Groups.{Plan}
 use Rattle.roc_law_log.specs.Scheme.{Scheme, IsSoundScheme}
 use Rattle.roc_law_log.specs.Invariants.{Continues}
-use Rattle.roc_server.specs.State.{find_group, ServerState}
-use Rattle.roc_server.specs.Below.{is_ended}
+use Rattle.roc_step.specs.State.{find_group, ServerState}
+use Rattle.roc_step.specs.Below.{is_ended}
 use Rattle.roc_audit.specs.Order.{noted, noted_one}
 use Rattle.roc_protocol.specs.Aside.{after_transaction}
 use Rattle.roc_protocol.specs.declared.event.Event.{Event}

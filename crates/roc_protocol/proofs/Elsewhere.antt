@@ -11,8 +11,8 @@ use Rattle.roc_law_orders.specs.Behaviour.{TxnGroup, Yield}
 use Rattle.roc_law_log.specs.Scheme.{Scheme}
 use Rattle.roc_law_log.specs.Log.{Log}
 use Rattle.roc_law_log.specs.Invariants.{LogInvariants, LogGrows}
-use Rattle.roc_server.specs.State.{ServerState}
-use Rattle.roc_server.specs.State.{unrun}
+use Rattle.roc_step.specs.State.{ServerState}
+use Rattle.roc_step.specs.State.{unrun}
 use Rattle.roc_protocol.specs.Beginnings.{Beginning}
 use Rattle.roc_protocol.specs.PlanAssumptions.{IsSchemeOf}
 use Rattle.roc_protocol.proofs.Means.{run_of, entry_run, place, Ran, Began, stage, ServerMeans}

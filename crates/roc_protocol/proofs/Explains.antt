@@ -20,12 +20,12 @@ use Rattle.roc_law_log.specs.Scheme.{Scheme}
 use Rattle.roc_law_log.specs.Log.{Log, IsWhole}
 use Rattle.roc_law_log.specs.Steps.{LogSteps, no_steps, one_step_more, new_in, waits_here, waiting_here}
 use Rattle.roc_law_log.specs.Invariants.{LogInvariants, LogGrows}
-use Rattle.roc_server.specs.declared.started.StartedGroup.{StartedGroup}
-use Rattle.roc_server.specs.declared.handled.Handled.{Handled}
-use Rattle.roc_server.specs.State.{refused, unrun, is_group, is_here, find_group, Lists, ServerState, ServerStep}
-use Rattle.roc_server.specs.Forgets.{forget, forgetting}
-use Rattle.roc_server.specs.Runs.{count_of_groups, groups_here, buffered_here, all_buffered, commitok_of, outs_here}
-use Rattle.roc_server.specs.Lists.{decides}
+use Rattle.roc_step.specs.declared.started.StartedGroup.{StartedGroup}
+use Rattle.roc_step.specs.declared.handled.Handled.{Handled}
+use Rattle.roc_step.specs.State.{refused, unrun, is_group, is_here, find_group, Lists, ServerState, ServerStep}
+use Rattle.roc_step.specs.Forgets.{forget, forgetting}
+use Rattle.roc_step.specs.Runs.{count_of_groups, groups_here, buffered_here, all_buffered, commitok_of, outs_here}
+use Rattle.roc_step.specs.Lists.{decides}
 use Rattle.roc_audit.specs.Order.{noted}
 use Rattle.roc_protocol.specs.PlanAssumptions.{IsSchemeOf}
 use Rattle.roc_protocol.specs.Beginnings.{Beginning}

@@ -12,7 +12,7 @@ use Rattle.roc_depgraph.specs.declared.known.KnownList.{KnownList}
 use Rattle.roc_depgraph.specs.Deps.{list_of, IsKnown, entries_of}
 use Rattle.roc_depgraph.proofs.Listed.{has_listed}
 use Rattle.roc_msg.specs.Facts.{front_of_facts, fitting, most_facts, most_fact_edges}
-use Rattle.roc_server_lists.specs.Piggyback.{facts_of}
+use Rattle.roc_step.specs.Piggyback.{facts_of}
 
 pub has_front : (lists entries : ℕ) (facts : List KnownList) (k : KnownList) → Has k (front_of_facts lists entries facts) → Has k facts
 has_front zero entries facts k h = absurd h

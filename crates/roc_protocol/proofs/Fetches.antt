@@ -17,10 +17,10 @@ use Rattle.roc_base.proofs.Ids.{is_txn-eq}
 use Rattle.roc_base.specs.Edge.{Dependency}
 use Rattle.roc_depgraph.specs.declared.known.KnownList.{KnownList}
 use Rattle.roc_depgraph.specs.Deps.{list_of, is_known}
-use Rattle.roc_await.specs.declared.waits.OpenFetch.{OpenFetch}
-use Rattle.roc_await.specs.declared.waits.Asker.{Asker}
-use Rattle.roc_await.specs.Waits.{is_asker_before, was_asked_for, with_all_asked, without_asked, askers_of}
-use Rattle.roc_await.proofs.Asking.{asked_still, asked_all}
+use Rattle.roc_step.specs.declared.waits.OpenFetch.{OpenFetch}
+use Rattle.roc_step.specs.declared.waits.Asker.{Asker}
+use Rattle.roc_step.specs.Waits.{is_asker_before, was_asked_for, with_all_asked, without_asked, askers_of}
+use Rattle.roc_step.proofs.Asking.{asked_still, asked_all}
 use Rattle.roc_msg.specs.declared.msg.Msg.{Msg}
 use Rattle.roc_msg.specs.declared.msg.Msg.TheVariants.{Start, Commit, Fetch, Known, Ended, Settled, Read, ReadOk}
 use Rattle.roc_msg.specs.declared.msg.Envelope.{Envelope}
@@ -28,16 +28,16 @@ use Rattle.roc_msg.specs.declared.outbox.Outgoing.{Outgoing}
 use Rattle.roc_msg.specs.declared.reason.Reason.TheVariants.{NotHere, Foreign}
 use Rattle.roc_plan.specs.Groups.{Plan}
 use Rattle.roc_group.specs.GroupRun.{GroupCall, call}
-use Rattle.roc_server.specs.declared.started.StartedGroup.{StartedGroup}
-use Rattle.roc_server.specs.State.{refused, ignored, answered, is_here, find_group, Lists, ServerState, ServerStep, hearing}
-use Rattle.roc_server.specs.Below.{is_ended}
-use Rattle.roc_server.specs.Forgets.{forget, forgetting}
-use Rattle.roc_server.specs.Start.{start_refusal, start_taken, start_judged, startok_of, new_group}
-use Rattle.roc_server.specs.Runs.{commitok_of}
-use Rattle.roc_server_lists.specs.Carried.{list_with, carried, unknown_of}
-use Rattle.roc_server_lists.specs.Asking.{known_to, knowns_for, fetch_from}
-use Rattle.roc_server.specs.Lists.{lists_after, missing_after, decides, taught, commit_refusal, commit_taken, after_commit, fetch_taken, settled_to, after_fetch, known_refusal, after_known, after_ended, is_settled, lists_settled, after_settled}
-use Rattle.roc_server.specs.Step.{Findings, Handles, after_message, tick_sends}
+use Rattle.roc_step.specs.declared.started.StartedGroup.{StartedGroup}
+use Rattle.roc_step.specs.State.{refused, ignored, answered, is_here, find_group, Lists, ServerState, ServerStep, hearing}
+use Rattle.roc_step.specs.Below.{is_ended}
+use Rattle.roc_step.specs.Forgets.{forget, forgetting}
+use Rattle.roc_step.specs.Start.{start_refusal, start_taken, start_judged, startok_of, new_group}
+use Rattle.roc_step.specs.Runs.{commitok_of}
+use Rattle.roc_step.specs.Carried.{list_with, carried, unknown_of}
+use Rattle.roc_step.specs.Asking.{known_to, knowns_for, fetch_from}
+use Rattle.roc_step.specs.Lists.{lists_after, missing_after, decides, taught, commit_refusal, commit_taken, after_commit, fetch_taken, settled_to, after_fetch, known_refusal, after_known, after_ended, is_settled, lists_settled, after_settled}
+use Rattle.roc_step.specs.Step.{Findings, Handles, after_message, tick_sends}
 use Rattle.roc_protocol.proofs.KeptGroups.{take_keeps}
 use Rattle.roc_coord.specs.State.{CoordState}
 use Rattle.roc_audit.specs.declared.entry.Entry.{Entry}
@@ -45,9 +45,9 @@ use Rattle.roc_protocol.specs.World.{World, sent_by, mark_delivered, at_server, 
 use Rattle.roc_protocol.proofs.Gathered.{IsRound}
 use Rattle.roc_protocol.proofs.Changed.{get-set_here, get-set_other, get-set_cases}
 use Rattle.roc_protocol.proofs.ForgottenHere.{forgotten, over_ended, asked_some}
-use Rattle.roc_server.proofs.Raised.{ended_still}
-use Rattle.roc_server.specs.declared.handled.Handled.{Handled}
-use Rattle.roc_server.specs.declared.handled.Handled.TheVariants.{Done, Ignored, Gone}
+use Rattle.roc_step.proofs.Raised.{ended_still}
+use Rattle.roc_step.specs.declared.handled.Handled.{Handled}
+use Rattle.roc_step.specs.declared.handled.Handled.TheVariants.{Done, Ignored, Gone}
 use Rattle.roc_protocol.proofs.ReadsHere.{for_read}
 use Rattle.roc_protocol.specs.Aside.{IsNoRead}
 use Rattle.roc_protocol.proofs.Submissions.{IsNoReadOk}

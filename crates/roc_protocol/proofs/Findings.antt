@@ -19,14 +19,14 @@ use Rattle.roc_depgraph.specs.Deps.{list_of, entries_of, is_known, IsKnown, Prec
 use Rattle.roc_depgraph.specs.Reach.{Reaches, direct, through, ReachesOrIs}
 use Rattle.roc_depgraph.proofs.Listed.{has_listed, listed_has, under_has}
 use Rattle.roc_depgraph.proofs.RisingIds.{ids, ids_complete, ids_rise}
-use Rattle.roc_server_ancestors.specs.Led.{IsKnownAndLedTo}
+use Rattle.roc_step.specs.Led.{IsKnownAndLedTo}
 use Rattle.roc_component.specs.Components.{HaveSameMembers, IsComponentOrderOf, AreTaken}
 use Rattle.roc_component.proofs.Paths.{path, path_chain, chain_path}
-use Rattle.roc_server_lists.specs.New.{AreDecided, AreLedTo, IsNew, AreAllNew, AreNewTaken}
+use Rattle.roc_step.specs.New.{AreDecided, AreLedTo, IsNew, AreAllNew, AreNewTaken}
 use Rattle.roc_msg.specs.declared.msg.Msg.{Msg}
 use Rattle.roc_plan.specs.Groups.{Plan}
-use Rattle.roc_server.specs.State.{ServerState, ServerStep}
-use Rattle.roc_server.specs.Step.{edges_told, links_after, Findings, after_message, Handles}
+use Rattle.roc_step.specs.State.{ServerState, ServerStep}
+use Rattle.roc_step.specs.Step.{edges_told, links_after, Findings, after_message, Handles}
 use Rattle.roc_protocol.proofs.OrderParts.{taken_parts}
 use Rattle.roc_protocol.proofs.Served.{list_has}
 

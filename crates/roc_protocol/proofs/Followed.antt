@@ -9,7 +9,7 @@ use Rattle.roc_base.specs.TxnId.{is_txn}
 use Rattle.roc_base.specs.Edge.{Dependency}
 use Rattle.roc_depgraph.specs.declared.known.KnownList.{KnownList}
 use Rattle.roc_depgraph.specs.Deps.{list_of, is_known, IsKnown, entries_of, Precedes}
-use Rattle.roc_server_lists.specs.Links.{without_links, all_entries}
+use Rattle.roc_step.specs.Links.{without_links, all_entries}
 
 -- what is followed of a known list: some of its entries, and each other one names what is done
 pub record IsFollowedOf (Done : TxnId → Type 0) (known link : KnownList) : Type 0 where

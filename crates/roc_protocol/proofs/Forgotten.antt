@@ -17,8 +17,8 @@ use Rattle.roc_msg.specs.declared.msg.Msg.TheVariants.{StartOk, Fetch, Settled}
 use Rattle.roc_msg.specs.declared.msg.Envelope.{Envelope}
 use Rattle.roc_plan.specs.Groups.{Plan}
 use Rattle.roc_law_log.specs.Scheme.{Scheme, IsSoundScheme}
-use Rattle.roc_server.specs.Forgets.{is_over}
-use Rattle.roc_server.specs.State.{is_here, find_group, ServerState}
+use Rattle.roc_step.specs.Forgets.{is_over}
+use Rattle.roc_step.specs.State.{is_here, find_group, ServerState}
 use Rattle.roc_audit.specs.History.{WasAnswered}
 use Rattle.roc_protocol.specs.declared.event.Event.TheVariants.{Deliver}
 use Rattle.roc_protocol.specs.PlanAssumptions.{HasSchemesFrom}

@@ -12,15 +12,15 @@ use Rattle.roc_base.specs.declared.id.TxnId.{TxnId}
 use Rattle.roc_base.specs.TxnId.{is_txn}
 use Rattle.roc_base.specs.Equalities.{is_txn-true}
 use Rattle.roc_depgraph.proofs.Listed.{has_listed, listed_has}
-use Rattle.roc_await.specs.declared.waits.OpenFetch.{OpenFetch}
-use Rattle.roc_await.specs.Waits.{was_asked_for}
-use Rattle.roc_server.specs.declared.started.StartedGroup.{StartedGroup}
-use Rattle.roc_server.specs.Below.{is_ended}
+use Rattle.roc_step.specs.declared.waits.OpenFetch.{OpenFetch}
+use Rattle.roc_step.specs.Waits.{was_asked_for}
+use Rattle.roc_step.specs.declared.started.StartedGroup.{StartedGroup}
+use Rattle.roc_step.specs.Below.{is_ended}
 use Rattle.roc_depgraph.specs.declared.known.KnownList.{KnownList}
-use Rattle.roc_server.specs.Forgets.{is_over, over, forget}
-use Rattle.roc_server.specs.Lists.{is_done, links_of}
-use Rattle.roc_server.specs.State.{is_group, find_group, is_here, ServerState}
-use Rattle.roc_server_lists.proofs.SameIds.{ids_of, ids_without, ids_some}
+use Rattle.roc_step.specs.Forgets.{is_over, over, forget}
+use Rattle.roc_step.specs.Lists.{is_done, links_of}
+use Rattle.roc_step.specs.State.{is_group, find_group, is_here, ServerState}
+use Rattle.roc_step.proofs.SameIds.{ids_of, ids_without, ids_some}
 use Rattle.roc_protocol.proofs.Gone.{IsGone, gone_without}
 
 -- what is forgotten is below a watermark

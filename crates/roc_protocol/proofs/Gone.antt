@@ -7,12 +7,12 @@ use Rattle.roc_sequence.proofs.Members.{from_has_filter}
 use Rattle.roc_base.specs.declared.id.TxnId.{TxnId}
 use Rattle.roc_base.specs.TxnId.{is_txn}
 use Rattle.roc_plan.specs.Groups.{Plan}
-use Rattle.roc_server.specs.declared.started.StartedGroup.{StartedGroup}
-use Rattle.roc_server.specs.State.{is_here, Lists, ServerState, hearing}
-use Rattle.roc_server.specs.Below.{is_ended}
-use Rattle.roc_server.specs.Forgets.{without}
-use Rattle.roc_server.specs.Runs.{take_all}
-use Rattle.roc_server.proofs.Raised.{ended_still}
+use Rattle.roc_step.specs.declared.started.StartedGroup.{StartedGroup}
+use Rattle.roc_step.specs.State.{is_here, Lists, ServerState, hearing}
+use Rattle.roc_step.specs.Below.{is_ended}
+use Rattle.roc_step.specs.Forgets.{without}
+use Rattle.roc_step.specs.Runs.{take_all}
+use Rattle.roc_step.proofs.Raised.{ended_still}
 use Rattle.roc_protocol.proofs.OneGroupMore.{here_cases}
 use Rattle.roc_protocol.proofs.KeptGroups.{take_keeps, take_same, same_here}
 

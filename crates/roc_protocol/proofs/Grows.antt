@@ -29,8 +29,8 @@ use Rattle.roc_law_log.specs.Log.{Log, PrecedesTxn, IsWhole, IsDecidedThroughout
 use Rattle.roc_law_log.specs.Settled.{IsSettled}
 use Rattle.roc_law_log.specs.Invariants.{LogInvariants, LogGrows}
 use Rattle.roc_law_log.proofs.Settled.{same_mates, settled_later}
-use Rattle.roc_server.specs.State.{ServerState}
-use Rattle.roc_server.specs.declared.started.StartedGroup.{StartedGroup}
+use Rattle.roc_step.specs.State.{ServerState}
+use Rattle.roc_step.specs.declared.started.StartedGroup.{StartedGroup}
 use Rattle.roc_coord.specs.declared.transaction.Transaction.{Transaction}
 use Rattle.roc_protocol.specs.Beginnings.{Beginning}
 use Rattle.roc_protocol.specs.PlanAssumptions.{picked, IsSchemeOf}

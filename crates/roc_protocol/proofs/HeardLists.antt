@@ -17,18 +17,18 @@ use Rattle.roc_depgraph.specs.declared.known.KnownList.{KnownList}
 use Rattle.roc_depgraph.specs.Deps.{is_known, IsKnown, Precedes, IsDecided}
 use Rattle.roc_depgraph.proofs.Chains.{weaker_chain}
 use Rattle.roc_depgraph.proofs.Laws.{known_stays, decided_stays}
-use Rattle.roc_await.specs.declared.waits.OpenFetch.{OpenFetch}
-use Rattle.roc_await.specs.declared.waits.Asker.{Asker}
-use Rattle.roc_await.specs.Waits.{is_asked_before, was_asked_for, with_asked, with_all_asked, without_asked, askers_of}
+use Rattle.roc_step.specs.declared.waits.OpenFetch.{OpenFetch}
+use Rattle.roc_step.specs.declared.waits.Asker.{Asker}
+use Rattle.roc_step.specs.Waits.{is_asked_before, was_asked_for, with_asked, with_all_asked, without_asked, askers_of}
 use Rattle.roc_msg.specs.declared.msg.Msg.TheVariants.{Known}
-use Rattle.roc_server_lists.specs.New.{AreNewTaken}
-use Rattle.roc_server_lists.specs.Links.{all_entries, without_links}
-use Rattle.roc_server_lists.proofs.SameIds.{ids_of, ids_without}
-use Rattle.roc_server.specs.State.{is_here, hearing, ServerState}
-use Rattle.roc_server_lists.specs.Asking.{known_to, knowns_for, fetch_from, asked_of}
-use Rattle.roc_server.specs.Lists.{links_of, lists_after, is_missing, missing_after, is_settled, lists_settled}
+use Rattle.roc_step.specs.New.{AreNewTaken}
+use Rattle.roc_step.specs.Links.{all_entries, without_links}
+use Rattle.roc_step.proofs.SameIds.{ids_of, ids_without}
+use Rattle.roc_step.specs.State.{is_here, hearing, ServerState}
+use Rattle.roc_step.specs.Asking.{known_to, knowns_for, fetch_from, asked_of}
+use Rattle.roc_step.specs.Lists.{links_of, lists_after, is_missing, missing_after, is_settled, lists_settled}
 use Rattle.roc_protocol.proofs.Facts.{known_has}
-use Rattle.roc_await.proofs.Asking.{asked_still, asked_all}
+use Rattle.roc_step.proofs.Asking.{asked_still, asked_all}
 use Rattle.roc_protocol.proofs.Deciding.{more_keeps}
 use Rattle.roc_protocol.proofs.ForgottenHere.{asked_some, same_learnt}
 use Rattle.roc_protocol.proofs.Followed.{known_marked, precedes_marked}

@@ -14,22 +14,22 @@ use Rattle.roc_base.specs.Edge.{Dependency}
 use Rattle.roc_depgraph.specs.declared.known.KnownList.{KnownList}
 use Rattle.roc_depgraph.specs.Deps.{list_of, IsKnown, IsDecided}
 use Rattle.roc_depgraph.proofs.Listed.{listed_has, has_listed}
-use Rattle.roc_await.specs.declared.waits.OpenFetch.{OpenFetch}
-use Rattle.roc_await.specs.declared.waits.Asker.{Asker}
-use Rattle.roc_await.specs.Waits.{was_asked_for}
+use Rattle.roc_step.specs.declared.waits.OpenFetch.{OpenFetch}
+use Rattle.roc_step.specs.declared.waits.Asker.{Asker}
+use Rattle.roc_step.specs.Waits.{was_asked_for}
 use Rattle.roc_msg.specs.declared.msg.Msg.TheVariants.{CommitOk, Known, Settled}
 use Rattle.roc_msg.specs.declared.outbox.Outgoing.{Outgoing}
 use Rattle.roc_msg.specs.InPlace.{in_place}
 use Rattle.roc_plan.specs.Groups.{Plan}
-use Rattle.roc_server_lists.specs.New.{AreNewTaken, AreDecided}
-use Rattle.roc_server_lists.specs.Links.{without_links}
-use Rattle.roc_server_lists.proofs.SameIds.{ids_of, known_alike}
-use Rattle.roc_server_lists.proofs.ForgottenLinks.{left_known, left_decided}
-use Rattle.roc_server.specs.Forgets.{is_over, over, forget, forgetting}
-use Rattle.roc_server.specs.State.{is_here, Lists, ServerState, ServerStep}
-use Rattle.roc_server.specs.Runs.{commitok, commitok_of, outs_here}
-use Rattle.roc_server_lists.specs.Asking.{fetch_from}
-use Rattle.roc_server.specs.Lists.{decides}
+use Rattle.roc_step.specs.New.{AreNewTaken, AreDecided}
+use Rattle.roc_step.specs.Links.{without_links}
+use Rattle.roc_step.proofs.SameIds.{ids_of, known_alike}
+use Rattle.roc_step.proofs.ForgottenLinks.{left_known, left_decided}
+use Rattle.roc_step.specs.Forgets.{is_over, over, forget, forgetting}
+use Rattle.roc_step.specs.State.{is_here, Lists, ServerState, ServerStep}
+use Rattle.roc_step.specs.Runs.{commitok, commitok_of, outs_here}
+use Rattle.roc_step.specs.Asking.{fetch_from}
+use Rattle.roc_step.specs.Lists.{decides}
 use Rattle.roc_protocol.proofs.Facts.{known_has}
 use Rattle.roc_protocol.proofs.KeptGroups.{take_keeps, take_same}
 use Rattle.roc_protocol.proofs.Gone.{IsGone}

@@ -10,17 +10,17 @@ use Rattle.roc_base.specs.declared.node.Node.{Node}
 use Rattle.roc_base.specs.declared.node.Node.TheVariants.{Server, Coord}
 use Rattle.roc_base.specs.TxnId.{is_txn}
 use Rattle.roc_depgraph.specs.Deps.{is_known}
-use Rattle.roc_server_lists.specs.Links.{without_links}
+use Rattle.roc_step.specs.Links.{without_links}
 use Rattle.roc_msg.specs.declared.msg.Msg.TheVariants.{Ended}
 use Rattle.roc_msg.specs.declared.msg.Envelope.{Envelope}
 use Rattle.roc_msg.specs.declared.outbox.Outgoing.{Outgoing}
 use Rattle.roc_plan.specs.Groups.{Plan}
-use Rattle.roc_server.specs.Below.{is_ended}
-use Rattle.roc_server.specs.Forgets.{is_over, over}
-use Rattle.roc_server.specs.State.{answered, hearing, ServerState, ServerStep}
-use Rattle.roc_server_lists.specs.Asking.{fetch_from}
-use Rattle.roc_server.specs.Step as server
-use Rattle.roc_server.specs.Lists.{after_ended}
+use Rattle.roc_step.specs.Below.{is_ended}
+use Rattle.roc_step.specs.Forgets.{is_over, over}
+use Rattle.roc_step.specs.State.{answered, hearing, ServerState, ServerStep}
+use Rattle.roc_step.specs.Asking.{fetch_from}
+use Rattle.roc_step.specs.Step as server
+use Rattle.roc_step.specs.Lists.{after_ended}
 use Rattle.roc_audit.specs.Order.{noted}
 use Rattle.roc_coord.specs.Tick.{sent_again}
 use Rattle.roc_coord.specs.Marks.{watermark, ended_sends}

@@ -5,13 +5,13 @@ use Rattle.roc_sequence.specs.Lists.{Has}
 use Rattle.roc_sequence.proofs.Holds.{every_has, has_every}
 use Rattle.roc_sequence.proofs.Members.{has_filter, from_has_filter}
 use Rattle.roc_base.specs.declared.id.TxnId.{TxnId}
-use Rattle.roc_server.specs.Below.{is_ended}
-use Rattle.roc_server.specs.Forgets.{is_over, forget}
+use Rattle.roc_step.specs.Below.{is_ended}
+use Rattle.roc_step.specs.Forgets.{is_over, forget}
 use Rattle.roc_plan.specs.Groups.{Plan}
-use Rattle.roc_server.specs.Runs.{take_all}
-use Rattle.roc_server.specs.State.{is_here, hearing, Lists, ServerState}
+use Rattle.roc_step.specs.Runs.{take_all}
+use Rattle.roc_step.specs.State.{is_here, hearing, Lists, ServerState}
 use Rattle.roc_protocol.proofs.Gone.{IsGone, gone_hears, gone_taught}
-use Rattle.roc_server.proofs.Raised.{ended_still}
+use Rattle.roc_step.proofs.Raised.{ended_still}
 use Rattle.roc_protocol.proofs.KeptGroups.{take_keeps, take_same}
 use Rattle.roc_protocol.proofs.ForgottenHere.{forgotten, forgets, over_of, gone_still, gone_now, here_kept}
 

@@ -11,9 +11,9 @@ use Rattle.roc_base.specs.declared.id.TxnId.{TxnId}
 use Rattle.roc_base.specs.TxnId.{is_txn}
 use Rattle.roc_plan.specs.Groups.{Plan, is_immediate_of}
 use Rattle.roc_group.specs.GroupRun.{group_run}
-use Rattle.roc_server.specs.declared.started.StartedGroup.{StartedGroup}
-use Rattle.roc_server.specs.State.{is_here, is_group, find_group, ServerState, unrun}
-use Rattle.roc_server.specs.Runs.{group_call, with_later, run_group, run_groups, buffered_here, all_buffered, take_all, count_of_groups}
+use Rattle.roc_step.specs.declared.started.StartedGroup.{StartedGroup}
+use Rattle.roc_step.specs.State.{is_here, is_group, find_group, ServerState, unrun}
+use Rattle.roc_step.specs.Runs.{group_call, with_later, run_group, run_groups, buffered_here, all_buffered, take_all, count_of_groups}
 
 -- running groups leaves the lists, the number and the watermarks alone
 groups_keep : (plan : Plan) (es : List StartedGroup) (st : ServerState) → ((run_groups plan st es).lists ≡ st.lists) × ((run_groups plan st es).shard ≡ st.shard) × ((run_groups plan st es).below ≡ st.below)

@@ -12,7 +12,7 @@ use Rattle.roc_base.specs.TxnId.{is_txn}
 use Rattle.roc_plan.specs.Groups.{Plan}
 use Rattle.roc_law_log.specs.Scheme.{Scheme, IsSoundScheme}
 use Rattle.roc_law_log.specs.Kept.{KeepsRan}
-use Rattle.roc_server.specs.State.{ServerState}
+use Rattle.roc_step.specs.State.{ServerState}
 use Rattle.roc_audit.specs.History.{WasAnswered, IsAnsweredBefore}
 use Rattle.roc_protocol.specs.Aside.{after_transaction}
 use Rattle.roc_audit.specs.Witness.{serial_reply_from, IsSerialWitnessFrom}

@@ -13,8 +13,8 @@ use Rattle.roc_whole.specs.Serial as whole
 use Rattle.roc_law_log.specs.Scheme.{Scheme}
 use Rattle.roc_law_log.specs.Log.{Log}
 use Rattle.roc_law_log.specs.Invariants.{LogInvariants, LogGrows}
-use Rattle.roc_server.specs.Forgets.{is_over}
-use Rattle.roc_server.specs.State.{is_here, ServerState}
+use Rattle.roc_step.specs.Forgets.{is_over}
+use Rattle.roc_step.specs.State.{is_here, ServerState}
 use Rattle.roc_protocol.specs.PlanAssumptions.{IsSchemeOf}
 use Rattle.roc_protocol.specs.Beginnings.{Beginning}
 use Rattle.roc_protocol.specs.World.{World}

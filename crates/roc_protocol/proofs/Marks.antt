@@ -9,8 +9,8 @@ use Rattle.roc_msg.specs.declared.msg.Msg.{Msg}
 use Rattle.roc_msg.specs.declared.msg.Msg.TheVariants.{Ended}
 use Rattle.roc_msg.specs.declared.outbox.Outgoing.{Outgoing}
 use Rattle.roc_plan.specs.Groups.{Plan}
-use Rattle.roc_server.specs.Below.{none_below, mark_of, is_ended, raised}
-use Rattle.roc_server.proofs.Raised.{set_cases}
+use Rattle.roc_step.specs.Below.{none_below, mark_of, is_ended, raised}
+use Rattle.roc_step.proofs.Raised.{set_cases}
 use Rattle.roc_coord.specs.State.{CoordState}
 use Rattle.roc_coord.specs.Marks.{least_seq, watermark, ended_to, ended_sends, passes_mark}
 use Rattle.roc_coord.specs.Step.{answered_sends}

@@ -2,7 +2,7 @@
 use Rattle.std.proofs.Common.{◌≡◌, ℕ, zero, suc, ◌<◌, ◌≤◌, true, List, [], ◌∷◌, length, arith}
 use Rattle.std.proofs.lemmas.Bool.Decides.{nat_tests}
 use Rattle.roc_base.specs.declared.id.TxnId.{TxnId}
-use Rattle.roc_server.specs.Below.{is_ended, mark_of, raised}
+use Rattle.roc_step.specs.Below.{is_ended, mark_of, raised}
 
 -- of no coordinator past the last one a watermark is kept
 kept_within : (below : List ℕ) (coord : ℕ) → 0 < mark_of below coord → coord < length below

@@ -15,7 +15,7 @@ use Rattle.roc_rows.specs.Store.{Store, read}
 use Rattle.roc_depgraph.specs.declared.known.KnownList.{KnownList}
 use Rattle.roc_depgraph.specs.Deps.{IsAncestor, IsDecided}
 use Rattle.roc_component.specs.Components.{Mates}
-use Rattle.roc_await.specs.declared.waits.OpenFetch.{OpenFetch}
+use Rattle.roc_step.specs.declared.waits.OpenFetch.{OpenFetch}
 use Rattle.roc_msg.specs.declared.msg.Msg.{Msg}
 use Rattle.roc_msg.specs.declared.msg.Msg.TheVariants.{Start, StartOk, Commit, CommitOk, Fetch, Known, Ended, Settled}
 use Rattle.roc_msg.specs.declared.msg.Envelope.{Envelope}
@@ -27,9 +27,9 @@ use Rattle.roc_law_log.specs.Scheme.{Scheme}
 use Rattle.roc_law_log.specs.Log.{Log, PrecedesGroup, PrecedesTxn, shard_at, IsWhole, IsDecidedThroughout}
 use Rattle.roc_law_log.specs.Settled.{IsSettled}
 use Rattle.roc_law_log.specs.Steps.{IsReachedLog}
-use Rattle.roc_server.specs.declared.started.StartedGroup.{StartedGroup}
-use Rattle.roc_server.specs.State.{find_group, is_here, ServerState}
-use Rattle.roc_server.specs.State.{unrun}
+use Rattle.roc_step.specs.declared.started.StartedGroup.{StartedGroup}
+use Rattle.roc_step.specs.State.{find_group, is_here, ServerState}
+use Rattle.roc_step.specs.State.{unrun}
 use Rattle.roc_coord.specs.declared.transaction.Transaction.{Transaction}
 use Rattle.roc_coord.specs.declared.transaction.TakenStart.{TakenStart}
 use Rattle.roc_coord.specs.State.{was_asked, CoordState}
@@ -40,7 +40,7 @@ use Rattle.roc_protocol.specs.PlanAssumptions.{picked, use_of}
 use Rattle.roc_protocol.specs.Beginnings.{Beginning}
 use Rattle.roc_protocol.specs.World.{World}
 use Rattle.roc_protocol.specs.Happens.{RanAt}
-use Rattle.roc_server.specs.Below.{is_ended}
+use Rattle.roc_step.specs.Below.{is_ended}
 use Rattle.roc_protocol.proofs.Gone.{IsGone}
 use Rattle.roc_protocol.proofs.Followed.{AreFollowedOf}
 

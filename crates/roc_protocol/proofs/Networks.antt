@@ -27,9 +27,9 @@ use Rattle.roc_whole.specs.Serial as whole
 use Rattle.roc_law_log.specs.Scheme.{Scheme}
 use Rattle.roc_law_log.specs.Log.{Log}
 use Rattle.roc_law_log.specs.Invariants.{LogInvariants}
-use Rattle.roc_server.specs.declared.started.StartedGroup.{StartedGroup}
-use Rattle.roc_server.specs.Start.{startok_of}
-use Rattle.roc_server.specs.State.{is_group, is_here, find_group, unrun, ServerState, ServerStep}
+use Rattle.roc_step.specs.declared.started.StartedGroup.{StartedGroup}
+use Rattle.roc_step.specs.Start.{startok_of}
+use Rattle.roc_step.specs.State.{is_group, is_here, find_group, unrun, ServerState, ServerStep}
 use Rattle.roc_coord.specs.declared.transaction.Transaction.{Transaction}
 use Rattle.roc_coord.specs.declared.transaction.TakenStart.{TakenStart}
 use Rattle.roc_coord.specs.State.{find_startok, CoordState}
@@ -45,7 +45,7 @@ use Rattle.roc_protocol.proofs.Changed.{get-set_here, get-set_other, get-set_cas
 use Rattle.roc_protocol.proofs.Carried.{IsToldBy, StartsHere, HoldsGood, KeepsGood}
 use Rattle.roc_protocol.proofs.Gathered.{IsGathered}
 use Rattle.roc_protocol.proofs.Coordinators.{there}
-use Rattle.roc_server_lists.proofs.Unions.{same_members}
+use Rattle.roc_step.proofs.Unions.{same_members}
 use Rattle.roc_protocol.proofs.Starting.{shard_number}
 use Rattle.roc_protocol.proofs.Worlds.{IsLogged}
 use Rattle.roc_protocol.proofs.Gone.{IsGone, here_stays}

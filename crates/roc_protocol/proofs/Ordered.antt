@@ -20,7 +20,7 @@ use Rattle.roc_whole.specs.Serial as whole
 use Rattle.roc_law_log.specs.Scheme.{Scheme, IsSoundScheme}
 use Rattle.roc_law_log.specs.Log.{Log, PrecedesTxn, HasGroup}
 use Rattle.roc_law_log.specs.Invariants.{LogInvariants}
-use Rattle.roc_server.specs.State.{is_here, ServerState}
+use Rattle.roc_step.specs.State.{is_here, ServerState}
 use Rattle.roc_protocol.specs.PlanAssumptions.{HasSchemesFrom}
 use Rattle.roc_protocol.specs.Beginnings.{Beginning, IsBeginning}
 use Rattle.roc_protocol.specs.World.{World}

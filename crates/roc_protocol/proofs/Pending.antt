@@ -16,7 +16,7 @@ use Rattle.roc_plan.specs.Groups.{Plan}
 use Rattle.roc_whole.specs.Serial as whole
 use Rattle.roc_law_log.specs.Scheme.{Scheme}
 use Rattle.roc_law_log.specs.Log.{Log}
-use Rattle.roc_server.specs.State.{ServerState, ServerStep}
+use Rattle.roc_step.specs.State.{ServerState, ServerStep}
 use Rattle.roc_coord.specs.declared.transaction.Transaction.{Transaction}
 use Rattle.roc_coord.specs.State.{was_asked, CoordState}
 use Rattle.roc_coord.specs.Starts.{all_started, shards_of}

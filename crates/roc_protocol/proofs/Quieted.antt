@@ -20,7 +20,7 @@ use Rattle.roc_depgraph.specs.declared.known.KnownList.{KnownList}
 use Rattle.roc_depgraph.specs.Deps.{list_of, is_known, IsKnown, entries_of, Precedes, IsDecided}
 use Rattle.roc_depgraph.specs.Reach.{Reaches, direct, through}
 use Rattle.roc_depgraph.proofs.Chains.{weaker_chain}
-use Rattle.roc_await.specs.declared.waits.OpenFetch.{OpenFetch}
+use Rattle.roc_step.specs.declared.waits.OpenFetch.{OpenFetch}
 use Rattle.roc_msg.specs.declared.msg.Msg.{Msg}
 use Rattle.roc_msg.specs.declared.msg.Msg.TheVariants.{Start, Commit, Fetch}
 use Rattle.roc_msg.specs.declared.msg.Envelope.{Envelope}
@@ -28,9 +28,9 @@ use Rattle.roc_msg.specs.Msg.{id_of}
 use Rattle.roc_plan.specs.Groups.{Plan, groups_of}
 use Rattle.roc_law_log.specs.Scheme.{Scheme, IsSoundScheme}
 use Rattle.roc_law_log.specs.Settled.{IsSettled}
-use Rattle.roc_server.specs.declared.started.StartedGroup.{StartedGroup}
-use Rattle.roc_server.specs.State.{is_here, ServerState}
-use Rattle.roc_server.specs.Below.{is_ended}
+use Rattle.roc_step.specs.declared.started.StartedGroup.{StartedGroup}
+use Rattle.roc_step.specs.State.{is_here, ServerState}
+use Rattle.roc_step.specs.Below.{is_ended}
 use Rattle.roc_audit.specs.History.{WasSubmitted, WasAnswered}
 use Rattle.roc_protocol.specs.PlanAssumptions.{HasSchemesFrom}
 use Rattle.roc_protocol.specs.Beginnings.{Beginning, IsBeginning}
@@ -54,7 +54,7 @@ use Rattle.roc_protocol.proofs.Transactions.{transaction_or_none}
 use Rattle.roc_protocol.proofs.Gone.{IsGone, here_stays}
 use Rattle.roc_protocol.proofs.Followed.{link_entry}
 use Rattle.roc_protocol.proofs.Served.{StartsAre}
-use Rattle.roc_server_lists.proofs.SameIds.{known_alike}
+use Rattle.roc_step.proofs.SameIds.{known_alike}
 use Rattle.roc_protocol.proofs.Marks.{IsMark}
 
 -- ---- lists

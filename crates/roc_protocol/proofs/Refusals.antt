@@ -29,18 +29,18 @@ use Rattle.roc_law_orders.specs.Runs.{needs, inputs_at}
 use Rattle.roc_law_log.specs.Scheme.{Scheme}
 use Rattle.roc_law_log.specs.Log.{Log}
 use Rattle.roc_law_log.specs.Invariants.{LogInvariants}
-use Rattle.roc_server.specs.declared.handled.Handled.{Handled}
-use Rattle.roc_server.specs.declared.handled.Handled.TheVariants.{Done, Gone}
-use Rattle.roc_server.specs.Below.{is_ended}
-use Rattle.roc_server.specs.declared.started.StartedGroup.{StartedGroup}
-use Rattle.roc_server.specs.State.{is_here, find_group, refused, ignored, answered, hearing, ServerState, ServerStep}
-use Rattle.roc_server.specs.Start.{has_procedure, has_counts, differs, start_refusal, start_taken, start_judged}
-use Rattle.roc_server_lists.specs.Carried.{list_with, is_unlike}
-use Rattle.roc_server.specs.Lists.{commit_refusal, after_commit, fetch_taken, settled_to, after_fetch, known_refusal, after_known, decides, lists_settled, after_settled}
-use Rattle.roc_server.specs.Step.{Findings, Handles, after_message}
+use Rattle.roc_step.specs.declared.handled.Handled.{Handled}
+use Rattle.roc_step.specs.declared.handled.Handled.TheVariants.{Done, Gone}
+use Rattle.roc_step.specs.Below.{is_ended}
+use Rattle.roc_step.specs.declared.started.StartedGroup.{StartedGroup}
+use Rattle.roc_step.specs.State.{is_here, find_group, refused, ignored, answered, hearing, ServerState, ServerStep}
+use Rattle.roc_step.specs.Start.{has_procedure, has_counts, differs, start_refusal, start_taken, start_judged}
+use Rattle.roc_step.specs.Carried.{list_with, is_unlike}
+use Rattle.roc_step.specs.Lists.{commit_refusal, after_commit, fetch_taken, settled_to, after_fetch, known_refusal, after_known, decides, lists_settled, after_settled}
+use Rattle.roc_step.specs.Step.{Findings, Handles, after_message}
 use Rattle.roc_audit.specs.declared.entry.Entry.TheVariants.{Submitted}
 use Rattle.roc_protocol.specs.PlanAssumptions.{picked, IsSchemeOf}
-use Rattle.roc_await.specs.Waits.{was_asked_for}
+use Rattle.roc_step.specs.Waits.{was_asked_for}
 use Rattle.roc_protocol.specs.Final.{lists_in}
 use Rattle.roc_protocol.specs.Beginnings.{Beginning}
 use Rattle.roc_protocol.specs.World.{World}

@@ -22,10 +22,10 @@ use Rattle.roc_law_orders.proofs.Stages.{after-yielded_other, same_inputs}
 use Rattle.roc_law_log.specs.Scheme.{Scheme}
 use Rattle.roc_law_log.specs.Log.{Log, IsWhole}
 use Rattle.roc_law_log.specs.Steps.{waits_here, waiting_here}
-use Rattle.roc_server.specs.declared.started.StartedGroup.{StartedGroup}
-use Rattle.roc_server.specs.State.{is_group, ServerState}
-use Rattle.roc_server.specs.Runs.{group_call, with_later, run_group, run_groups, buffered_here, take_all}
-use Rattle.roc_server.specs.State.{unrun}
+use Rattle.roc_step.specs.declared.started.StartedGroup.{StartedGroup}
+use Rattle.roc_step.specs.State.{is_group, ServerState}
+use Rattle.roc_step.specs.Runs.{group_call, with_later, run_group, run_groups, buffered_here, take_all}
+use Rattle.roc_step.specs.State.{unrun}
 use Rattle.roc_protocol.specs.PlanAssumptions.{picked, called, IsSchemeOf}
 use Rattle.roc_protocol.specs.Beginnings.{Beginning}
 use Rattle.roc_protocol.specs.Inner.Given.{LogLaws}

@@ -16,8 +16,8 @@ use Rattle.roc_base.specs.Equalities.{is_txn-true}
 use Rattle.roc_base.specs.Edge.{Dependency}
 use Rattle.roc_depgraph.specs.declared.known.KnownList.{KnownList}
 use Rattle.roc_depgraph.specs.Deps.{list_of, is_known, IsKnown, IsDecided}
-use Rattle.roc_await.specs.declared.waits.OpenFetch.{OpenFetch}
-use Rattle.roc_await.specs.Waits.{was_asked_for, askers_of}
+use Rattle.roc_step.specs.declared.waits.OpenFetch.{OpenFetch}
+use Rattle.roc_step.specs.Waits.{was_asked_for, askers_of}
 use Rattle.roc_msg.specs.declared.msg.Msg.{Msg}
 use Rattle.roc_msg.specs.declared.msg.Msg.TheVariants.{Start, Commit, Fetch, Known, Ended, Settled, Read, ReadOk}
 use Rattle.roc_msg.specs.declared.outbox.Outgoing.{Outgoing}
@@ -32,20 +32,20 @@ use Rattle.roc_law_log.specs.Log.{Log}
 use Rattle.roc_law_log.specs.Settled.{IsSettled}
 use Rattle.roc_law_log.specs.Steps.{no_steps, one_step_more}
 use Rattle.roc_law_log.specs.Invariants.{LogInvariants, LogGrows}
-use Rattle.roc_server.specs.declared.started.StartedGroup.{StartedGroup}
-use Rattle.roc_server.specs.declared.handled.Handled.{Handled}
-use Rattle.roc_server.specs.declared.handled.Handled.TheVariants.{Ignored, Gone}
-use Rattle.roc_server.specs.Below.{is_ended, mark_of}
-use Rattle.roc_server.specs.State.{refused, ignored, answered, is_group, is_here, find_group, ServerState, ServerStep, hearing}
-use Rattle.roc_server.specs.Forgets.{forgetting}
-use Rattle.roc_server_lists.specs.Carried.{list_with, carried, unknown_of}
-use Rattle.roc_server_lists.specs.Asking.{known_to, knowns_for, fetch_from}
-use Rattle.roc_server_lists.specs.Links.{without_links}
-use Rattle.roc_server_lists.specs.New.{AreNewTaken}
-use Rattle.roc_server.specs.Start.{is_immediate_group, start_refusal, start_taken, start_judged, startok_of, new_group, start_new}
-use Rattle.roc_server.specs.Runs.{commitok_of}
-use Rattle.roc_server.specs.Lists.{links_of, missing_after, lists_after, decides, taught, commit_refusal, after_commit, fetch_taken, settled_to, after_fetch, known_refusal, after_known, is_settled, lists_settled, after_settled}
-use Rattle.roc_server.specs.Step.{Findings, AreFindings, unless_refused, after_message, Handles, tick_sends}
+use Rattle.roc_step.specs.declared.started.StartedGroup.{StartedGroup}
+use Rattle.roc_step.specs.declared.handled.Handled.{Handled}
+use Rattle.roc_step.specs.declared.handled.Handled.TheVariants.{Ignored, Gone}
+use Rattle.roc_step.specs.Below.{is_ended, mark_of}
+use Rattle.roc_step.specs.State.{refused, ignored, answered, is_group, is_here, find_group, ServerState, ServerStep, hearing}
+use Rattle.roc_step.specs.Forgets.{forgetting}
+use Rattle.roc_step.specs.Carried.{list_with, carried, unknown_of}
+use Rattle.roc_step.specs.Asking.{known_to, knowns_for, fetch_from}
+use Rattle.roc_step.specs.Links.{without_links}
+use Rattle.roc_step.specs.New.{AreNewTaken}
+use Rattle.roc_step.specs.Start.{is_immediate_group, start_refusal, start_taken, start_judged, startok_of, new_group, start_new}
+use Rattle.roc_step.specs.Runs.{commitok_of}
+use Rattle.roc_step.specs.Lists.{links_of, missing_after, lists_after, decides, taught, commit_refusal, after_commit, fetch_taken, settled_to, after_fetch, known_refusal, after_known, is_settled, lists_settled, after_settled}
+use Rattle.roc_step.specs.Step.{Findings, AreFindings, unless_refused, after_message, Handles, tick_sends}
 use Rattle.roc_protocol.specs.PlanAssumptions.{IsSchemeOf}
 use Rattle.roc_protocol.specs.Beginnings.{Beginning}
 use Rattle.roc_protocol.specs.World.{World}

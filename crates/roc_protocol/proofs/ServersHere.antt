@@ -17,9 +17,9 @@ use Rattle.roc_base.specs.Edge.{Dependency}
 use Rattle.roc_base.specs.Edges.{united}
 use Rattle.roc_depgraph.specs.declared.known.KnownList.{KnownList}
 use Rattle.roc_depgraph.specs.Deps.{list_of, entries_of, is_known}
-use Rattle.roc_await.specs.declared.waits.OpenFetch.{OpenFetch}
-use Rattle.roc_await.specs.declared.waits.Asker.{Asker}
-use Rattle.roc_await.specs.Waits.{is_asked_before, is_asker_before, was_asked_for, with_asked, with_all_asked, without_asked, askers_of}
+use Rattle.roc_step.specs.declared.waits.OpenFetch.{OpenFetch}
+use Rattle.roc_step.specs.declared.waits.Asker.{Asker}
+use Rattle.roc_step.specs.Waits.{is_asked_before, is_asker_before, was_asked_for, with_asked, with_all_asked, without_asked, askers_of}
 use Rattle.roc_msg.specs.declared.msg.Msg.{Msg}
 use Rattle.roc_msg.specs.declared.msg.Msg.TheVariants.{Start, Commit, Fetch, Known, Ended, Settled, Read}
 use Rattle.roc_msg.specs.declared.outbox.Outgoing.{Outgoing}
@@ -28,27 +28,27 @@ use Rattle.roc_msg.specs.Facts.{is_fact_before}
 use Rattle.roc_program.proofs.Transactions.{transaction_parts}
 use Rattle.roc_plan.specs.Groups.{Plan, procedure_of, groups_of, inputs_of, shard_of, group_place}
 use Rattle.roc_group.specs.GroupRun.{GroupCall, call, group_uses}
-use Rattle.roc_server.specs.declared.started.StartedGroup.{StartedGroup}
-use Rattle.roc_server.specs.Fits.{IsCallOf, ServerFits}
-use Rattle.roc_server.specs.State.{refused, ignored, answered, first_answer, is_here, is_group, find_group, Lists, ServerState, ServerStep, hearing}
-use Rattle.roc_server.specs.Below.{is_ended}
-use Rattle.roc_server.specs.Forgets.{over, forget, forgetting}
-use Rattle.roc_server_lists.specs.Piggyback.{facts_of}
-use Rattle.roc_server.specs.Start.{has_procedure, has_counts, differs, start_refusal, start_taken, start_judged, startok_of, new_group, is_predecessor, is_immediate_group, edge_to}
-use Rattle.roc_server.specs.Runs.{group_call, commitok_of}
-use Rattle.roc_server_lists.specs.Carried.{list_with, carried, unknown_of}
-use Rattle.roc_server_lists.specs.Asking.{asked_of, known_to, knowns_for, fetch_from}
-use Rattle.roc_server_lists.specs.Links.{all_entries, least_naming, without_links}
-use Rattle.roc_server.specs.Lists.{is_done, links_of, is_missing, missing_after, lists_after, decides, taught, commit_differs, commit_refusal, commit_taken, after_commit, fetch_taken, settled_to, after_fetch, known_refusal, after_known, after_ended, is_settled, lists_settled, after_settled}
-use Rattle.roc_server.specs.Step.{Findings, Handles, after_message, tick_sends}
-use Rattle.roc_server.specs.State.{unrun}
+use Rattle.roc_step.specs.declared.started.StartedGroup.{StartedGroup}
+use Rattle.roc_step.specs.Fits.{IsCallOf, ServerFits}
+use Rattle.roc_step.specs.State.{refused, ignored, answered, first_answer, is_here, is_group, find_group, Lists, ServerState, ServerStep, hearing}
+use Rattle.roc_step.specs.Below.{is_ended}
+use Rattle.roc_step.specs.Forgets.{over, forget, forgetting}
+use Rattle.roc_step.specs.Piggyback.{facts_of}
+use Rattle.roc_step.specs.Start.{has_procedure, has_counts, differs, start_refusal, start_taken, start_judged, startok_of, new_group, is_predecessor, is_immediate_group, edge_to}
+use Rattle.roc_step.specs.Runs.{group_call, commitok_of}
+use Rattle.roc_step.specs.Carried.{list_with, carried, unknown_of}
+use Rattle.roc_step.specs.Asking.{asked_of, known_to, knowns_for, fetch_from}
+use Rattle.roc_step.specs.Links.{all_entries, least_naming, without_links}
+use Rattle.roc_step.specs.Lists.{is_done, links_of, is_missing, missing_after, lists_after, decides, taught, commit_differs, commit_refusal, commit_taken, after_commit, fetch_taken, settled_to, after_fetch, known_refusal, after_known, after_ended, is_settled, lists_settled, after_settled}
+use Rattle.roc_step.specs.Step.{Findings, Handles, after_message, tick_sends}
+use Rattle.roc_step.specs.State.{unrun}
 use Rattle.roc_protocol.specs.Fits.{AreSeenHere, AreListsHere, NamesNodes, IsStartedHere, IsServerHere}
 use Rattle.roc_protocol.proofs.KeptGroups.{take_keeps, take_same}
 use Rattle.roc_protocol.proofs.Facts.{has_fitting}
 use Rattle.roc_protocol.proofs.Served.{list_has}
 use Rattle.roc_protocol.proofs.Named.{all_filter, all_in_place, all_flat, seen_united, IsOutHere}
-use Rattle.roc_server.specs.declared.handled.Handled.{Handled}
-use Rattle.roc_server.specs.declared.handled.Handled.TheVariants.{Ignored, Gone}
+use Rattle.roc_step.specs.declared.handled.Handled.{Handled}
+use Rattle.roc_step.specs.declared.handled.Handled.TheVariants.{Ignored, Gone}
 
 -- a start is taken only of a group of the plan
 called : (plan : Plan) (s : ServerState) (id : TxnId) (c : GroupCall) → start_refusal plan s id c ≡ None → IsCallOf plan c

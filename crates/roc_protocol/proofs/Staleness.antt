@@ -31,8 +31,8 @@ use Rattle.roc_law_orders.proofs.Stages.{yielded_at}
 use Rattle.roc_law_log.specs.Scheme.{Scheme}
 use Rattle.roc_law_log.specs.Log.{Log}
 use Rattle.roc_law_log.specs.Invariants.{LogInvariants}
-use Rattle.roc_server.specs.declared.started.StartedGroup.{StartedGroup}
-use Rattle.roc_server.specs.State.{is_group, is_here, ServerState}
+use Rattle.roc_step.specs.declared.started.StartedGroup.{StartedGroup}
+use Rattle.roc_step.specs.State.{is_group, is_here, ServerState}
 use Rattle.roc_coord.specs.declared.handled.Handled.TheVariants.{Ignored}
 use Rattle.roc_coord.specs.declared.transaction.Transaction.{Transaction}
 use Rattle.roc_coord.specs.declared.transaction.SentStart.{SentStart}
@@ -50,7 +50,7 @@ use Rattle.roc_protocol.proofs.Replies.{count_given, places_are, counts_at, leng
 use Rattle.roc_protocol.proofs.Networks.{IsToldHere, IsNetworked}
 use Rattle.roc_protocol.proofs.Pending.{AnsweredAreDone, AskedBy, IsWholeAt, IsPending}
 use Rattle.roc_protocol.proofs.Worlds.{IsLogged, ordered_submitted}
-use Rattle.roc_server_lists.proofs.SameIds.{known_alike}
+use Rattle.roc_step.proofs.SameIds.{known_alike}
 use Rattle.roc_protocol.proofs.Gone.{IsGone}
 use Rattle.roc_coord.specs.Ids.{view_ids}
 use Rattle.roc_readonly.specs.declared.view.View.{View}

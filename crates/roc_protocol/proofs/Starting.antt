@@ -36,9 +36,9 @@ use Rattle.roc_law_log.specs.Log.{Log}
 use Rattle.roc_law_log.specs.Steps.{MayStart, with_start, IsReachedLog, LogStep, group_starts, no_steps, one_step_more}
 use Rattle.roc_law_log.specs.Settled.{IsSettled}
 use Rattle.roc_law_log.specs.Invariants.{LogInvariants, LogGrows}
-use Rattle.roc_server.specs.declared.started.StartedGroup.{StartedGroup}
-use Rattle.roc_server.specs.State.{is_group, is_here, find_group, unrun, ServerState}
-use Rattle.roc_server.specs.Start.{is_immediate_group, is_predecessor, edge_to, new_group, start_new}
+use Rattle.roc_step.specs.declared.started.StartedGroup.{StartedGroup}
+use Rattle.roc_step.specs.State.{is_group, is_here, find_group, unrun, ServerState}
+use Rattle.roc_step.specs.Start.{is_immediate_group, is_predecessor, edge_to, new_group, start_new}
 use Rattle.roc_protocol.specs.PlanAssumptions.{called, use_of, IsSchemeOf}
 use Rattle.roc_protocol.specs.Beginnings.{Beginning}
 use Rattle.roc_protocol.specs.Inner.Given.{LogLaws}

@@ -25,7 +25,7 @@ use Rattle.roc_law_log.specs.Settled.{IsSettled}
 use Rattle.roc_law_log.specs.Steps.{IsReachedLog}
 use Rattle.roc_law_log.proofs.Components.{chain_mates}
 use Rattle.roc_law_log.proofs.Chained.{chained_first}
-use Rattle.roc_server.specs.State.{is_here, ServerState, Lists}
+use Rattle.roc_step.specs.State.{is_here, ServerState, Lists}
 use Rattle.roc_protocol.specs.PlanAssumptions.{IsSchemeOf}
 use Rattle.roc_protocol.specs.Beginnings.{Beginning}
 use Rattle.roc_protocol.specs.Inner.Given.{LogLaws}

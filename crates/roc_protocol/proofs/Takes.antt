@@ -18,9 +18,9 @@ use Rattle.roc_base.specs.Edge.{Dependency}
 use Rattle.roc_depgraph.specs.declared.known.KnownList.{KnownList}
 use Rattle.roc_depgraph.specs.Deps.{list_of, is_known, IsKnown, IsDecided}
 use Rattle.roc_depgraph.proofs.Laws.{known_stays}
-use Rattle.roc_await.specs.declared.waits.OpenFetch.{OpenFetch}
-use Rattle.roc_await.specs.declared.waits.Asker.{Asker}
-use Rattle.roc_await.specs.Waits.{is_asker_before, was_asked_for, with_asker, without_asked}
+use Rattle.roc_step.specs.declared.waits.OpenFetch.{OpenFetch}
+use Rattle.roc_step.specs.declared.waits.Asker.{Asker}
+use Rattle.roc_step.specs.Waits.{is_asker_before, was_asked_for, with_asker, without_asked}
 use Rattle.roc_msg.specs.declared.msg.Msg.{Msg}
 use Rattle.roc_msg.specs.declared.msg.Msg.TheVariants.{Start, Commit, Fetch, Known, Ended, Settled, Read}
 use Rattle.roc_msg.specs.declared.outbox.Outgoing.{Outgoing}
@@ -28,20 +28,20 @@ use Rattle.roc_msg.specs.declared.reason.Reason.TheVariants.{NotHere, Foreign}
 use Rattle.roc_msg.specs.Facts.{is_fact_before}
 use Rattle.roc_plan.specs.Groups.{Plan}
 use Rattle.roc_group.specs.GroupRun.{call}
-use Rattle.roc_server.specs.declared.handled.Handled.TheVariants.{Done, Ignored, Gone}
-use Rattle.roc_server.specs.declared.started.StartedGroup.{StartedGroup}
-use Rattle.roc_server_lists.specs.New.{AreNewTaken, AreDecided}
-use Rattle.roc_server_lists.specs.Links.{without_links}
-use Rattle.roc_server_lists.proofs.SameIds.{ids_of}
-use Rattle.roc_server.specs.Below.{is_ended, mark_of}
-use Rattle.roc_server.specs.Forgets.{forgetting}
-use Rattle.roc_server.specs.State.{refused, ignored, answered, is_here, is_group, find_group, Lists, ServerState, ServerStep, hearing}
-use Rattle.roc_server.specs.Start.{start_refusal, start_taken, start_judged, startok_of, new_group}
-use Rattle.roc_server.specs.Runs.{commitok, commitok_of, outs_here}
-use Rattle.roc_server_lists.specs.Carried.{list_with, carried, unknown_of}
-use Rattle.roc_server_lists.specs.Asking.{known_to, knowns_for, fetch_from}
-use Rattle.roc_server.specs.Lists.{links_of, lists_after, missing_after, decides, taught, commit_refusal, after_commit, fetch_taken, settled_to, after_fetch, known_refusal, after_known, is_settled, lists_settled}
-use Rattle.roc_server.specs.Step.{Findings, AreFindings, unless_refused, after_message, Handles}
+use Rattle.roc_step.specs.declared.handled.Handled.TheVariants.{Done, Ignored, Gone}
+use Rattle.roc_step.specs.declared.started.StartedGroup.{StartedGroup}
+use Rattle.roc_step.specs.New.{AreNewTaken, AreDecided}
+use Rattle.roc_step.specs.Links.{without_links}
+use Rattle.roc_step.proofs.SameIds.{ids_of}
+use Rattle.roc_step.specs.Below.{is_ended, mark_of}
+use Rattle.roc_step.specs.Forgets.{forgetting}
+use Rattle.roc_step.specs.State.{refused, ignored, answered, is_here, is_group, find_group, Lists, ServerState, ServerStep, hearing}
+use Rattle.roc_step.specs.Start.{start_refusal, start_taken, start_judged, startok_of, new_group}
+use Rattle.roc_step.specs.Runs.{commitok, commitok_of, outs_here}
+use Rattle.roc_step.specs.Carried.{list_with, carried, unknown_of}
+use Rattle.roc_step.specs.Asking.{known_to, knowns_for, fetch_from}
+use Rattle.roc_step.specs.Lists.{links_of, lists_after, missing_after, decides, taught, commit_refusal, after_commit, fetch_taken, settled_to, after_fetch, known_refusal, after_known, is_settled, lists_settled}
+use Rattle.roc_step.specs.Step.{Findings, AreFindings, unless_refused, after_message, Handles}
 use Rattle.roc_protocol.proofs.OneGroupMore.{here_more}
 use Rattle.roc_protocol.proofs.KeptGroups.{take_keeps, take_same}
 use Rattle.roc_protocol.proofs.Deciding.{more_keeps}
@@ -51,7 +51,7 @@ use Rattle.roc_protocol.proofs.ForgottenHere.{here_or_gone}
 use Rattle.roc_protocol.proofs.Taking.{IsIgnored, start_late, commit_late, known_late, commits_here}
 use Rattle.roc_protocol.proofs.Refusals.{IsTakenAs}
 use Rattle.roc_protocol.proofs.Gone.{IsGone}
-use Rattle.roc_server.specs.declared.handled.Handled.{Handled}
+use Rattle.roc_step.specs.declared.handled.Handled.{Handled}
 use Rattle.roc_protocol.proofs.ReadsHere.{for_read}
 
 -- ---- who asks

@@ -4,7 +4,7 @@ use Rattle.std.specs.Prelude.{slice_get, slice_set}
 use Rattle.roc_sequence.specs.Lists.{Has}
 use Rattle.roc_sequence.specs.Places.{IsListed}
 use Rattle.roc_sequence.proofs.Members.{same_there}
-use Rattle.roc_server.specs.State.{ServerState, ServerStep}
+use Rattle.roc_step.specs.State.{ServerState, ServerStep}
 use Rattle.roc_base.specs.declared.id.TxnId.{TxnId}
 use Rattle.roc_base.specs.declared.node.Node.{Node}
 use Rattle.roc_base.specs.declared.node.Shard.{Shard}

@@ -6,18 +6,18 @@ use Rattle.roc_base.specs.declared.id.TxnId.{TxnId}
 use Rattle.roc_base.specs.Edge.{Dependency}
 use Rattle.roc_depgraph.specs.declared.known.KnownList.{KnownList}
 use Rattle.roc_depgraph.specs.Deps.{is_known}
-use Rattle.roc_await.specs.Waits.{was_asked_for}
+use Rattle.roc_step.specs.Waits.{was_asked_for}
 use Rattle.roc_msg.specs.declared.reason.Reason.{Reason}
 use Rattle.roc_msg.specs.declared.reason.Reason.TheVariants.{BadProc, BadGroup, BadInputs, NotHere, Late, Differs}
 use Rattle.roc_plan.specs.Groups.{Plan, groups_of, shard_of, group_place}
 use Rattle.roc_group.specs.GroupRun.{GroupCall}
-use Rattle.roc_server.specs.Below.{is_ended}
-use Rattle.roc_server.specs.declared.handled.Handled.{Handled}
-use Rattle.roc_server.specs.declared.handled.Handled.TheVariants.{Ignored, Gone}
-use Rattle.roc_server_lists.specs.Carried.{list_with, is_unlike}
-use Rattle.roc_server.specs.Lists.{commit_differs, commit_refusal, known_refusal}
-use Rattle.roc_server.specs.Start.{has_procedure, has_counts, differs, start_refusal}
-use Rattle.roc_server.specs.State.{first_answer, find_group, is_here, ServerState}
+use Rattle.roc_step.specs.Below.{is_ended}
+use Rattle.roc_step.specs.declared.handled.Handled.{Handled}
+use Rattle.roc_step.specs.declared.handled.Handled.TheVariants.{Ignored, Gone}
+use Rattle.roc_step.specs.Carried.{list_with, is_unlike}
+use Rattle.roc_step.specs.Lists.{commit_differs, commit_refusal, known_refusal}
+use Rattle.roc_step.specs.Start.{has_procedure, has_counts, differs, start_refusal}
+use Rattle.roc_step.specs.State.{first_answer, find_group, is_here, ServerState}
 use Rattle.roc_protocol.proofs.Gone.{IsGone}
 
 -- ---- why a message is not taken: it comes too late, or is ignored

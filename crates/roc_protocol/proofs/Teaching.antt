@@ -15,8 +15,8 @@ use Rattle.roc_base.proofs.Members.{IsAllOf-united}
 use Rattle.roc_depgraph.specs.declared.known.KnownList.{KnownList}
 use Rattle.roc_depgraph.specs.Deps.{is_known, IsDecided}
 use Rattle.roc_depgraph.proofs.Laws.{known_stays, precedes_back}
-use Rattle.roc_await.specs.declared.waits.OpenFetch.{OpenFetch}
-use Rattle.roc_await.specs.Waits.{is_asked_before, with_asked, with_all_asked, without_asked}
+use Rattle.roc_step.specs.declared.waits.OpenFetch.{OpenFetch}
+use Rattle.roc_step.specs.Waits.{is_asked_before, with_asked, with_all_asked, without_asked}
 use Rattle.roc_plan.specs.Groups.{Plan}
 use Rattle.roc_whole.specs.Serial as whole
 use Rattle.roc_law_orders.specs.Behaviour.{is_txn_group}
@@ -24,13 +24,13 @@ use Rattle.roc_law_log.specs.Scheme.{Scheme}
 use Rattle.roc_law_log.specs.Log.{Log}
 use Rattle.roc_law_log.specs.Settled.{IsSettled}
 use Rattle.roc_law_log.specs.Invariants.{LogInvariants}
-use Rattle.roc_server_lists.specs.Links.{all_entries, least_naming, without_links}
-use Rattle.roc_server_lists.specs.New.{AreNewTaken}
-use Rattle.roc_server_lists.specs.Asking.{asked_of}
-use Rattle.roc_server_lists.proofs.LeastNaming.{least_is}
-use Rattle.roc_server.specs.State.{is_here, ServerState, hearing}
-use Rattle.roc_server.specs.Below.{is_ended}
-use Rattle.roc_server.specs.Lists.{is_done, links_of, is_missing, missing_after, lists_after, is_settled, lists_settled}
+use Rattle.roc_step.specs.Links.{all_entries, least_naming, without_links}
+use Rattle.roc_step.specs.New.{AreNewTaken}
+use Rattle.roc_step.specs.Asking.{asked_of}
+use Rattle.roc_step.proofs.LeastNaming.{least_is}
+use Rattle.roc_step.specs.State.{is_here, ServerState, hearing}
+use Rattle.roc_step.specs.Below.{is_ended}
+use Rattle.roc_step.specs.Lists.{is_done, links_of, is_missing, missing_after, lists_after, is_settled, lists_settled}
 use Rattle.roc_protocol.specs.Beginnings.{Beginning}
 use Rattle.roc_protocol.specs.Inner.Given.{LogLaws}
 use Rattle.roc_protocol.proofs.Means.{HasBegun, AllMean, ServerMeans}

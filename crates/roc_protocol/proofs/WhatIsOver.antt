@@ -23,13 +23,13 @@ use Rattle.roc_whole.specs.Serial as whole
 use Rattle.roc_law_log.specs.Scheme.{Scheme}
 use Rattle.roc_law_log.specs.Log.{Log, PrecedesTxn, PrecedesGroup}
 use Rattle.roc_law_log.specs.Settled.{IsSettled}
-use Rattle.roc_server.specs.Below.{is_ended, mark_of}
-use Rattle.roc_server.specs.Forgets.{is_over}
-use Rattle.roc_server.specs.State.{answered, ignored, is_here, find_group, ServerState, ServerStep}
+use Rattle.roc_step.specs.Below.{is_ended, mark_of}
+use Rattle.roc_step.specs.Forgets.{is_over}
+use Rattle.roc_step.specs.State.{answered, ignored, is_here, find_group, ServerState, ServerStep}
 use Rattle.roc_msg.specs.declared.reason.Reason.TheVariants.{NotHere}
-use Rattle.roc_server_lists.specs.Carried.{list_with}
-use Rattle.roc_server_lists.specs.Asking.{known_to}
-use Rattle.roc_server.specs.Lists.{fetch_taken, settled_to, after_fetch}
+use Rattle.roc_step.specs.Carried.{list_with}
+use Rattle.roc_step.specs.Asking.{known_to}
+use Rattle.roc_step.specs.Lists.{fetch_taken, settled_to, after_fetch}
 use Rattle.roc_audit.specs.History.{WasAnswered}
 use Rattle.roc_protocol.specs.Beginnings.{Beginning}
 use Rattle.roc_protocol.specs.World.{World, mark_delivered, sent_by}

@@ -26,7 +26,7 @@ use Rattle.roc_law_log.specs.Invariants.{LogInvariants}
 use Rattle.roc_audit.specs.declared.entry.Entry.{Entry}
 use Rattle.roc_audit.specs.History.{WasSubmitted, WasAnswered}
 use Rattle.roc_audit.specs.Witness.{submitted_call, submitted_calls, reply_in, serial_reply_from, IsSerialWitnessFrom}
-use Rattle.roc_server.specs.State.{ServerState}
+use Rattle.roc_step.specs.State.{ServerState}
 use Rattle.roc_coord.specs.State.{CoordState}
 use Rattle.roc_protocol.specs.PlanAssumptions.{IsSchemeOf, IsWholeReplyFrom}
 use Rattle.roc_protocol.specs.Beginnings.{Beginning, begun_server, begun_world, IsBeginning}

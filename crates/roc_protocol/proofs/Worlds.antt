@@ -24,9 +24,9 @@ use Rattle.roc_law_log.specs.Scheme.{Scheme}
 use Rattle.roc_law_log.specs.Log.{Log}
 use Rattle.roc_law_log.specs.Steps.{LogSteps, no_steps, new_in}
 use Rattle.roc_law_log.specs.Invariants.{LogInvariants, LogGrows}
-use Rattle.roc_server.specs.declared.started.StartedGroup.{StartedGroup}
-use Rattle.roc_server.specs.State.{answered, ServerState, ServerStep}
-use Rattle.roc_server.specs.Step as server
+use Rattle.roc_step.specs.declared.started.StartedGroup.{StartedGroup}
+use Rattle.roc_step.specs.State.{answered, ServerState, ServerStep}
+use Rattle.roc_step.specs.Step as server
 use Rattle.roc_coord.specs.declared.handled.Handled.{Handled}
 use Rattle.roc_coord.specs.declared.handled.Handled.TheVariants as answer
 use Rattle.roc_coord.specs.declared.transaction.Transaction.{Transaction}

@@ -8,8 +8,8 @@ use Rattle.roc_base.specs.declared.node.Node.{Node}
 use Rattle.roc_msg.specs.declared.msg.Envelope.{Envelope}
 use Rattle.roc_msg.specs.declared.outbox.Outgoing.{Outgoing}
 use Rattle.roc_plan.specs.Groups.{Plan}
-use Rattle.roc_server.specs.Fits.{ServerFits}
-use Rattle.roc_server.specs.State.{ServerState}
+use Rattle.roc_step.specs.Fits.{ServerFits}
+use Rattle.roc_step.specs.State.{ServerState}
 use Rattle.roc_coord.specs.Fits.{CoordFits}
 use Rattle.roc_protocol.specs.Beginnings.{Beginning, begun_server, begun_coord, begun_world}
 use Rattle.roc_protocol.specs.World.{sent_by}

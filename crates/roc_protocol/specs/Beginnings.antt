@@ -6,9 +6,9 @@ use Rattle.roc_rows.specs.declared.cell.Cell.{Cell}
 use Rattle.roc_rows.specs.Store.{Store, read, empty}
 use Rattle.roc_plan.specs.Groups.{Plan, shard_of}
 use Rattle.roc_whole.specs.Serial.{after_inits, start_store}
-use Rattle.roc_await.specs.Waits.{none_waiting}
-use Rattle.roc_server.specs.Below.{none_below, is_ended}
-use Rattle.roc_server.specs.State.{ServerState}
+use Rattle.roc_step.specs.Waits.{none_waiting}
+use Rattle.roc_step.specs.Below.{none_below, is_ended}
+use Rattle.roc_step.specs.State.{ServerState}
 use Rattle.roc_coord.specs.State.{CoordState}
 use Rattle.roc_coord.specs.Submit.{most_transactions}
 use Rattle.roc_protocol.specs.World.{World}

@@ -7,11 +7,11 @@ use Rattle.roc_msg.specs.declared.msg.Msg.{Msg}
 use Rattle.roc_msg.specs.declared.msg.Envelope.{Envelope}
 use Rattle.roc_msg.specs.declared.outbox.Outgoing.{Outgoing}
 use Rattle.roc_plan.specs.Groups.{Plan}
-use Rattle.roc_server.specs.declared.handled.Handled.{Handled as ServerHandled}
-use Rattle.roc_server.specs.declared.handled.Handled.TheVariants as server_answer
-use Rattle.roc_server.specs.declared.started.StartedGroup.{StartedGroup}
-use Rattle.roc_server.specs.State.{answered, ServerState, ServerStep}
-use Rattle.roc_server.specs.Step as server
+use Rattle.roc_step.specs.declared.handled.Handled.{Handled as ServerHandled}
+use Rattle.roc_step.specs.declared.handled.Handled.TheVariants as server_answer
+use Rattle.roc_step.specs.declared.started.StartedGroup.{StartedGroup}
+use Rattle.roc_step.specs.State.{answered, ServerState, ServerStep}
+use Rattle.roc_step.specs.Step as server
 use Rattle.roc_coord.specs.declared.handled.Handled.{Handled as CoordHandled}
 use Rattle.roc_coord.specs.declared.handled.Handled.TheVariants as coord_answer
 use Rattle.roc_coord.specs.declared.handled.SubmitFault.{SubmitFault}

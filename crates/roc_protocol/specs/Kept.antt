@@ -8,8 +8,8 @@ use Rattle.roc_base.specs.TxnId.{is_txn}
 use Rattle.roc_depgraph.specs.Deps.{IsDecided}
 use Rattle.roc_group.specs.Accesses.{do_conflict}
 use Rattle.roc_plan.specs.Groups.{Plan, is_immediate_of}
-use Rattle.roc_server.specs.declared.started.StartedGroup.{StartedGroup}
-use Rattle.roc_server.specs.State.{ServerState}
+use Rattle.roc_step.specs.declared.started.StartedGroup.{StartedGroup}
+use Rattle.roc_step.specs.State.{ServerState}
 use Rattle.roc_protocol.specs.World.{World}
 use Rattle.roc_protocol.specs.Happens.{RanAt}
 use Rattle.roc_protocol.specs.Run.{Stepped}

@@ -12,7 +12,7 @@ use Rattle.roc_rows.specs.Store.{Store, read, entries}
 use Rattle.roc_plan.specs.Accepted.{IsAccepted}
 use Rattle.roc_plan.specs.Groups.{Plan, procedure_of}
 use Rattle.roc_msg.specs.declared.msg.Envelope.{Envelope}
-use Rattle.roc_server.specs.State.{ServerState}
+use Rattle.roc_step.specs.State.{ServerState}
 use Rattle.roc_coord.specs.declared.handled.SubmitFault.TheVariants as fault
 use Rattle.roc_coord.specs.State.{CoordState}
 use Rattle.roc_coord.specs.Submit.{refused_or_accepted, after_submit, most_transactions, most_pending}

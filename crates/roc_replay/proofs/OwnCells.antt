@@ -23,16 +23,16 @@ use Rattle.roc_depgraph.specs.Deps.{list_of}
 use Rattle.roc_msg.specs.declared.msg.Msg.{Msg}
 use Rattle.roc_msg.specs.declared.msg.Msg.TheVariants as msg
 use Rattle.roc_msg.specs.declared.reason.Reason.TheVariants.{NotHere}
-use Rattle.roc_server.specs.declared.handled.Handled.{Handled}
-use Rattle.roc_server.specs.declared.handled.Handled.TheVariants.{Gone}
-use Rattle.roc_server.specs.declared.started.StartedGroup.{StartedGroup}
-use Rattle.roc_server.specs.State.{ServerState, ServerStep, find_group, hearing, is_here, refused, ignored, answered}
+use Rattle.roc_step.specs.declared.handled.Handled.{Handled}
+use Rattle.roc_step.specs.declared.handled.Handled.TheVariants.{Gone}
+use Rattle.roc_step.specs.declared.started.StartedGroup.{StartedGroup}
+use Rattle.roc_step.specs.State.{ServerState, ServerStep, find_group, hearing, is_here, refused, ignored, answered}
 use Rattle.roc_protocol.specs.Beginnings as protocol
-use Rattle.roc_server.specs.Start.{start_refusal, start_judged, start_taken, is_immediate_group}
-use Rattle.roc_server.specs.Runs.{group_call, buffered_here, run_group, run_groups, take_all}
-use Rattle.roc_server.specs.Lists.{decides, commit_refusal, after_commit, fetch_taken, settled_to, known_refusal, after_known, lists_settled}
-use Rattle.roc_server.specs.Step as server
-use Rattle.roc_server.specs.Step.{Findings}
+use Rattle.roc_step.specs.Start.{start_refusal, start_judged, start_taken, is_immediate_group}
+use Rattle.roc_step.specs.Runs.{group_call, buffered_here, run_group, run_groups, take_all}
+use Rattle.roc_step.specs.Lists.{decides, commit_refusal, after_commit, fetch_taken, settled_to, known_refusal, after_known, lists_settled}
+use Rattle.roc_step.specs.Step as server
+use Rattle.roc_step.specs.Step.{Findings}
 use Rattle.roc_protocol.specs.declared.event.Event.{Event}
 use Rattle.roc_protocol.specs.declared.event.Event.TheVariants.{Submit, Deliver, Tick}
 use Rattle.roc_views.specs.World.{World, mark_delivered}

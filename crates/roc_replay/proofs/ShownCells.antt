@@ -15,7 +15,7 @@ use Rattle.roc_rows.specs.Cells.{cell_cmp}
 use Rattle.roc_rows.specs.Store.{Store, read, entries}
 use Rattle.roc_msg.specs.declared.msg.Envelope.{Envelope}
 use Rattle.roc_plan.specs.Groups.{Plan, shard_of}
-use Rattle.roc_server.specs.State.{ServerState}
+use Rattle.roc_step.specs.State.{ServerState}
 use Rattle.roc_coord.specs.State.{CoordState}
 use Rattle.roc_audit.specs.History.{WasSubmitted, WasAnswered}
 use Rattle.roc_protocol.specs.declared.event.Event.{Event}

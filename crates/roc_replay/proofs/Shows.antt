@@ -16,8 +16,8 @@ use Rattle.roc_rows.specs.Store.{read}
 use Rattle.roc_depgraph.proofs.Chains.{weaker_chain}
 use Rattle.roc_plan.specs.Groups.{Plan, is_view_of}
 use Rattle.roc_whole.specs.Serial.{serial_store, start_store}
-use Rattle.roc_server.specs.declared.handled.Handled.{Handled as ServerHandled}
-use Rattle.roc_server.specs.declared.handled.Handled.TheVariants as server_answer
+use Rattle.roc_step.specs.declared.handled.Handled.{Handled as ServerHandled}
+use Rattle.roc_step.specs.declared.handled.Handled.TheVariants as server_answer
 use Rattle.roc_coord.specs.declared.handled.Handled.{Handled as CoordHandled}
 use Rattle.roc_coord.specs.declared.handled.Handled.TheVariants as coord_answer
 use Rattle.roc_coord.specs.declared.handled.SubmitFault.{SubmitFault}

@@ -6,10 +6,10 @@ use Rattle.roc_msg.specs.declared.outbox.Ran.{Ran}
 use Rattle.roc_msg.specs.Outbox.{Collected, HasRun}
 use Rattle.roc_plan.specs.Groups.{Plan}
 use Rattle.roc_group.specs.declared.access.Access.{Access}
-use Rattle.roc_server.specs.declared.started.StartedGroup.{StartedGroup}
-use Rattle.roc_server.specs.Runs.{accesses_of, buffered_here, all_buffered}
+use Rattle.roc_step.specs.declared.started.StartedGroup.{StartedGroup}
+use Rattle.roc_step.specs.Runs.{accesses_of, buffered_here, all_buffered}
 use Rattle.roc_server.specs.Inner.Runs.{buffered}
-use Rattle.roc_server.specs.State.{find_group}
+use Rattle.roc_step.specs.State.{find_group}
 use Rattle.roc_server.proofs.GroupRuns.{buffered-append, groups_from, groups_from-more}
 
 abbrev pub noted : TxnId → Access → Ran

@@ -10,18 +10,18 @@ use Rattle.roc_base.specs.Edge.{Dependency}
 use Rattle.roc_depgraph.specs.declared.known.KnownList.{KnownList}
 use Rattle.roc_depgraph.specs.Deps.{is_known, IsDecided}
 use Rattle.roc_await.specs.Lacks.{AreLacks}
-use Rattle.roc_await.specs.Waits.{Awaited, Waiting, was_asked_for}
-use Rattle.roc_await.specs.declared.waits.OpenFetch.{OpenFetch}
+use Rattle.roc_step.specs.Waits.{Awaited, Waiting, was_asked_for}
+use Rattle.roc_step.specs.declared.waits.OpenFetch.{OpenFetch}
 use Rattle.roc_server_ancestors.specs.Least.{AreSameRows, IsRow}
 use Rattle.roc_server_index.specs.GroupRefs.{HaveSameRefs}
-use Rattle.roc_server_lists.specs.Links.{all_entries, AreLinksOf}
+use Rattle.roc_step.specs.Links.{all_entries, AreLinksOf}
 use Rattle.roc_server.specs.declared.server_data.ServerData.{ServerData}
-use Rattle.roc_server.specs.declared.started.StartedGroup.{StartedGroup}
-use Rattle.roc_server.specs.Below.{is_ended}
-use Rattle.roc_server.specs.Forgets.{over}
+use Rattle.roc_step.specs.declared.started.StartedGroup.{StartedGroup}
+use Rattle.roc_step.specs.Below.{is_ended}
+use Rattle.roc_step.specs.Forgets.{over}
 use Rattle.roc_server.specs.Inner.Indexed.{group_refs_of, undecided}
 use Rattle.roc_server.specs.Inner.ServerData.{IsConsistent, IsRight, IsSame, is_same_group}
-use Rattle.roc_server.specs.State.{is_here}
+use Rattle.roc_step.specs.State.{is_here}
 
 -- all but the cells is the same, room aside
 pub record AreAlike (old new : ServerData) : Type 0 where

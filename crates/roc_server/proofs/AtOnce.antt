@@ -6,16 +6,16 @@ use Rattle.roc_msg.specs.declared.msg.Msg.{Msg}
 use Rattle.roc_msg.specs.declared.msg.Msg.TheVariants.{Start, Commit, Fetch, Known, Ended, Settled, Read}
 use Rattle.roc_msg.specs.Outbox.{Collected}
 use Rattle.roc_plan.specs.Groups.{Plan}
-use Rattle.roc_server.specs.declared.handled.Handled.{Handled}
+use Rattle.roc_step.specs.declared.handled.Handled.{Handled}
 use Rattle.roc_server.specs.declared.server_data.ServerData.{ServerData}
 use Rattle.roc_server.specs.Ahead.{needs_room}
 use Rattle.roc_server.specs.Inner.AtOnce.{at_once}
 use Rattle.roc_server.specs.Inner.ServerData.{state_of, IsConsistent}
-use Rattle.roc_server_lists.specs.New.{AreDecided}
+use Rattle.roc_step.specs.New.{AreDecided}
 use Rattle.roc_server.specs.Inner.Held.{IsServed}
-use Rattle.roc_server.specs.State.{ServerState, Viewing}
-use Rattle.roc_server.specs.Step.{Findings, AreFindings, after_message, Handles}
-use Rattle.roc_server_lists.proofs.TakenNew.{nothing_new}
+use Rattle.roc_step.specs.State.{ServerState, Viewing}
+use Rattle.roc_step.specs.Step.{Findings, AreFindings, after_message, Handles}
+use Rattle.roc_step.proofs.TakenNew.{nothing_new}
 use Rattle.roc_server.proofs.StartSteps.{nothing_led}
 
 -- it is the step, whatever is found

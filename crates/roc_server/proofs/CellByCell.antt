@@ -19,13 +19,13 @@ use Rattle.roc_group.specs.Accesses.{meets, do_conflict}
 use Rattle.roc_server_index.specs.declared.group_ref.GroupRef.{GroupRef}
 use Rattle.roc_server_index.specs.GroupRefs.{CellRefs, group_refs_at}
 use Rattle.roc_plan.specs.Groups.{Plan, is_immediate_of}
-use Rattle.roc_server.specs.declared.started.StartedGroup.{StartedGroup}
-use Rattle.roc_server.specs.Start.{conflicts_before, edge_to, uses_cell}
+use Rattle.roc_step.specs.declared.started.StartedGroup.{StartedGroup}
+use Rattle.roc_step.specs.Start.{conflicts_before, edge_to, uses_cell}
 use Rattle.roc_server.specs.Inner.Indexed.{group_ref_of, group_refs_of, undecided, IsIndexOf, conflicts_with, is_met, edge_from}
-use Rattle.roc_server.specs.State.{find_group}
+use Rattle.roc_step.specs.State.{find_group}
 use Rattle.roc_server.specs.Inner.ServerData.{is_same_group}
 use Rattle.roc_server.proofs.Stands.{group_found}
-use Rattle.roc_server_lists.proofs.Unions.{same_members}
+use Rattle.roc_step.proofs.Unions.{same_members}
 
 -- each of the groups is found among all by its number
 abbrev pub AreFound : (whole es : List StartedGroup) → Type 0

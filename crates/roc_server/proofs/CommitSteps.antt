@@ -5,26 +5,26 @@ use Rattle.roc_base.specs.declared.id.TxnId.{TxnId}
 use Rattle.roc_base.specs.declared.node.Shard.{Shard}
 use Rattle.roc_base.specs.Edge.{Dependency}
 use Rattle.roc_base.specs.TxnId.{is_txn}
-use Rattle.roc_await.specs.Waits.{was_asked_for}
+use Rattle.roc_step.specs.Waits.{was_asked_for}
 use Rattle.roc_depgraph.specs.declared.known.KnownList.{KnownList}
 use Rattle.roc_depgraph.specs.Deps.{IsDecided}
-use Rattle.roc_server_lists.proofs.TakenNew.{nothing_new}
+use Rattle.roc_step.proofs.TakenNew.{nothing_new}
 use Rattle.roc_msg.specs.Outbox.{Collected}
 use Rattle.roc_msg.specs.declared.reason.Reason.TheVariants.{NotHere, Differs}
 use Rattle.roc_plan.specs.Groups.{Plan}
-use Rattle.roc_server.specs.declared.handled.Handled.{Handled}
-use Rattle.roc_server.specs.declared.handled.Handled.TheVariants.{Gone, Ignored}
+use Rattle.roc_step.specs.declared.handled.Handled.{Handled}
+use Rattle.roc_step.specs.declared.handled.Handled.TheVariants.{Gone, Ignored}
 use Rattle.roc_server.specs.declared.server_data.ServerData.{ServerData}
-use Rattle.roc_server.specs.Below.{is_ended}
-use Rattle.roc_server.specs.Forgets.{forgetting}
-use Rattle.roc_server.specs.Runs.{commitok_of}
-use Rattle.roc_server_lists.specs.New.{AreNewTaken}
-use Rattle.roc_server_lists.specs.Carried.{list_with, carried, is_unlike, unknown_of}
-use Rattle.roc_server.specs.Lists.{commit_differs, commit_refusal, commit_taken, after_commit, known_refusal, after_known, links_of, taught}
+use Rattle.roc_step.specs.Below.{is_ended}
+use Rattle.roc_step.specs.Forgets.{forgetting}
+use Rattle.roc_step.specs.Runs.{commitok_of}
+use Rattle.roc_step.specs.New.{AreNewTaken}
+use Rattle.roc_step.specs.Carried.{list_with, carried, is_unlike, unknown_of}
+use Rattle.roc_step.specs.Lists.{commit_differs, commit_refusal, commit_taken, after_commit, known_refusal, after_known, links_of, taught}
 use Rattle.roc_server.specs.Inner.ServerData.{state_of}
 use Rattle.roc_server.specs.Inner.Taught.{own_again, with_own, Teaches, Commits, Knows}
-use Rattle.roc_server.specs.State.{refused, is_here, ServerState, ServerStep}
-use Rattle.roc_server.specs.Step.{unless_refused}
+use Rattle.roc_step.specs.State.{refused, is_here, ServerState, ServerStep}
+use Rattle.roc_step.specs.Step.{unless_refused}
 use Rattle.roc_server.specs.Inner.Shown.{ShowsStep}
 
 -- what a message is answered of a transaction that is not here

@@ -6,7 +6,7 @@ use Rattle.roc_rows.specs.Cells.{is_cell}
 use Rattle.roc_rows.specs.Versions.{Counts, counted, version}
 use Rattle.roc_rows.proofs.CellLaws.{is_cell-false, is_cell-true}
 use Rattle.roc_rows.proofs.Counts.{version-counted_other, version-counted_same}
-use Rattle.roc_server.specs.Reads.{with_access, with_accesses}
+use Rattle.roc_step.specs.Reads.{with_access, with_accesses}
 
 -- how often it was written
 abbrev writes_to : Cell → List Ran → ℕ

@@ -3,21 +3,21 @@ use Rattle.std.proofs.Common.{◌≡◌, Bool, true, false, not, ◌&&◌, if◌
 use Rattle.roc_base.specs.declared.id.TxnId.{TxnId}
 use Rattle.roc_base.specs.declared.node.Shard.{Shard}
 use Rattle.roc_base.specs.Edge.{Dependency}
-use Rattle.roc_await.specs.Waits.{Awaited, Waiting, with_asker}
+use Rattle.roc_step.specs.Waits.{Awaited, Waiting, with_asker}
 use Rattle.roc_depgraph.specs.Deps.{list_of}
 use Rattle.roc_msg.specs.Outbox.{Collected, HasSent}
 use Rattle.roc_msg.specs.declared.reason.Reason.TheVariants.{NotHere}
-use Rattle.roc_server.specs.declared.handled.Handled.{Handled}
-use Rattle.roc_server.specs.declared.handled.Handled.TheVariants.{Done, Ignored}
+use Rattle.roc_step.specs.declared.handled.Handled.{Handled}
+use Rattle.roc_step.specs.declared.handled.Handled.TheVariants.{Done, Ignored}
 use Rattle.roc_server.specs.declared.server_data.ServerData.{ServerData}
-use Rattle.roc_server_lists.specs.Carried.{list_with}
-use Rattle.roc_server_lists.specs.Asking.{known_to}
-use Rattle.roc_server.specs.Below.{is_ended}
-use Rattle.roc_server.specs.Lists.{fetch_taken, settled_to, after_fetch}
+use Rattle.roc_step.specs.Carried.{list_with}
+use Rattle.roc_step.specs.Asking.{known_to}
+use Rattle.roc_step.specs.Below.{is_ended}
+use Rattle.roc_step.specs.Lists.{fetch_taken, settled_to, after_fetch}
 use Rattle.roc_server.specs.declared.planned.Change.TheVariants.{Asker}
 use Rattle.roc_server.specs.Inner.Planned.{after}
 use Rattle.roc_server.specs.Inner.ServerData.{state_of, IsConsistent}
-use Rattle.roc_server.specs.State.{answered, ignored, is_here, ServerState, ServerStep}
+use Rattle.roc_step.specs.State.{answered, ignored, is_here, ServerState, ServerStep}
 use Rattle.roc_server.specs.Inner.Shown.{ShowsStep}
 use Rattle.roc_server.proofs.Alike.{asked_alike}
 

@@ -12,8 +12,8 @@ use Rattle.roc_base.specs.declared.node.Shard.{Shard}
 use Rattle.roc_base.specs.TxnId.{is_txn}
 use Rattle.roc_base.specs.Edge.{Dependency}
 use Rattle.roc_await.specs.Lacks.{AreLacks}
-use Rattle.roc_await.specs.Waits.{Awaited, Waiting, was_asked_for, without_asked}
-use Rattle.roc_await.specs.declared.waits.OpenFetch.{OpenFetch}
+use Rattle.roc_step.specs.Waits.{Awaited, Waiting, was_asked_for, without_asked}
+use Rattle.roc_step.specs.declared.waits.OpenFetch.{OpenFetch}
 use Rattle.roc_depgraph.specs.declared.known.KnownList.{KnownList}
 use Rattle.roc_depgraph.specs.Closure.{IsRisingListOf}
 use Rattle.roc_depgraph.specs.Deps.{is_known, IsDecided}
@@ -21,17 +21,18 @@ use Rattle.roc_depgraph.proofs.Listed.{has_listed, listed_has}
 use Rattle.roc_rows.specs.declared.cell.Cell.{Cell}
 use Rattle.roc_server_ancestors.specs.Least.{AreRows, HeldRows}
 use Rattle.roc_server_lists.specs.Decided.{DecidedIds}
-use Rattle.roc_server_lists.specs.Links.{all_entries, without_links, AreLinksOf}
+use Rattle.roc_step.specs.Links.{all_entries, without_links, AreLinksOf}
 use Rattle.roc_server_lists.proofs.FollowedLinks.{links_left}
-use Rattle.roc_server_lists.proofs.ForgottenLinks.{decided_left, known_left, lacks_left, left_decided, left_known}
-use Rattle.roc_server_lists.proofs.WithoutLinks.{entries_left}
+use Rattle.roc_step.proofs.ForgottenLinks.{decided_left, known_left, left_decided, left_known}
+use Rattle.roc_server_lists.proofs.LacksLeft.{lacks_left}
+use Rattle.roc_step.proofs.WithoutLinks.{entries_left}
 use Rattle.roc_server.specs.declared.left.Left.{Left}
 use Rattle.roc_server.specs.declared.server_data.ServerData.{ServerData}
-use Rattle.roc_server.specs.declared.started.StartedGroup.{StartedGroup}
-use Rattle.roc_server.specs.Below.{is_ended}
-use Rattle.roc_server.specs.Forgets.{forget, is_over, over}
-use Rattle.roc_server.specs.Start.{uses_cell}
-use Rattle.roc_server.specs.State.{is_here}
+use Rattle.roc_step.specs.declared.started.StartedGroup.{StartedGroup}
+use Rattle.roc_step.specs.Below.{is_ended}
+use Rattle.roc_step.specs.Forgets.{forget, is_over, over}
+use Rattle.roc_step.specs.Start.{uses_cell}
+use Rattle.roc_step.specs.State.{is_here}
 use Rattle.roc_server.specs.Inner.Forgetting.{Forgets, IsForgettable, IsOverOf}
 use Rattle.roc_server.specs.Inner.Indexed.{group_ref_of, group_refs_of, undecided}
 use Rattle.roc_server.specs.Inner.Keyed.{Entered}

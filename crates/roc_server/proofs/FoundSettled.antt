@@ -18,16 +18,17 @@ use Rattle.roc_base.proofs.Ids.{unlisted_none}
 use Rattle.roc_component.specs.Components.{AreTaken}
 use Rattle.roc_component.proofs.OneMember.{none_taken}
 use Rattle.roc_await.specs.Lacks.{AreDecidedBy, AreLacks, NextLacks}
-use Rattle.roc_await.specs.Learning.{AreLacksBefore, AreLearnable}
+use Rattle.roc_await.specs.Learning.{AreLacksBefore}
+use Rattle.roc_step.specs.Learning.{AreLearnable}
 use Rattle.roc_await.specs.Released.{AreReleased}
 use Rattle.roc_await.specs.declared.lack.Lack.{Lack}
 use Rattle.roc_depgraph.specs.declared.known.KnownList.{KnownList}
 use Rattle.roc_depgraph.specs.Closure.{IsRisingListOf}
 use Rattle.roc_depgraph.specs.Deps.{is_known, list_of, IsDecided}
-use Rattle.roc_server_lists.specs.Links.{without_links}
-use Rattle.roc_server_lists.specs.New.{AreAllNew, AreNewTaken}
+use Rattle.roc_step.specs.Links.{without_links}
+use Rattle.roc_step.specs.New.{AreAllNew, AreNewTaken}
 use Rattle.roc_server_lists.proofs.FollowedLinks.{links_ids}
-use Rattle.roc_server_lists.proofs.SameIds.{ids_of, ids_without, known_alike}
+use Rattle.roc_step.proofs.SameIds.{ids_of, ids_without, known_alike}
 use Rattle.roc_server_ancestors.specs.Least.{AreAllRight, AreRows}
 use Rattle.roc_server.specs.declared.behind.Behind.TheVariants.{More as Adds}
 use Rattle.roc_server.specs.declared.behind.More.{More}
@@ -35,8 +36,8 @@ use Rattle.roc_server.specs.declared.left.Left.{Left}
 use Rattle.roc_server.specs.declared.settled.Deciding.{Deciding}
 use Rattle.roc_server.specs.declared.settled.Settling.{Settling}
 use Rattle.roc_server.specs.declared.server_data.ServerData.{ServerData}
-use Rattle.roc_server.specs.Below.{is_ended}
-use Rattle.roc_server.specs.Forgets.{is_over, over}
+use Rattle.roc_step.specs.Below.{is_ended}
+use Rattle.roc_step.specs.Forgets.{is_over, over}
 use Rattle.roc_server.specs.Inner.Behind.{followed_then, IsBehind}
 use Rattle.roc_server.specs.Inner.Left.{IsLeftAfter, IsOver}
 use Rattle.roc_server.specs.Inner.ServerData.{IsRight}

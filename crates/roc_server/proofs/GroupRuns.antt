@@ -8,13 +8,13 @@ use Rattle.roc_base.specs.TxnId.{is_txn}
 use Rattle.roc_group.specs.GroupRun.{group_run}
 use Rattle.roc_plan.specs.Groups.{Plan, is_immediate_of}
 use Rattle.roc_rows.specs.Store.{Store}
-use Rattle.roc_server.specs.declared.started.StartedGroup.{StartedGroup}
-use Rattle.roc_server.specs.Runs.{count_of_groups, groups_here, buffered_here, run_group, run_groups, take_all, group_call}
-use Rattle.roc_server.specs.Fits.{AreGroupsOf}
+use Rattle.roc_step.specs.declared.started.StartedGroup.{StartedGroup}
+use Rattle.roc_step.specs.Runs.{count_of_groups, groups_here, buffered_here, run_group, run_groups, take_all, group_call}
+use Rattle.roc_step.specs.Fits.{AreGroupsOf}
 use Rattle.roc_server.specs.Inner.ServerData.{holding, is_same_group, AreSameGroups}
-use Rattle.roc_server.specs.State.{unrun}
+use Rattle.roc_step.specs.State.{unrun}
 use Rattle.roc_server.specs.Inner.Runs.{buffered, RunsAt, RunsIfBuffered}
-use Rattle.roc_server.specs.State.{is_group, find_group, ServerState}
+use Rattle.roc_step.specs.State.{is_group, find_group, ServerState}
 use Rattle.roc_sequence.proofs.Found.{found_at, found_within, set_where_it_stands}
 use Rattle.roc_server.proofs.SameGroups.{same_own, same_swap, set_same, fits_same, once_same, find_same}
 

@@ -14,9 +14,9 @@ use Rattle.roc_server_index.specs.declared.group_ref.GroupRef.{GroupRef}
 use Rattle.roc_server_index.specs.GroupRefs.{CellRefs, group_refs_at}
 use Rattle.roc_server.specs.declared.planned.Change.{Change}
 use Rattle.roc_server.specs.declared.server_data.ServerData.{ServerData}
-use Rattle.roc_server.specs.declared.started.StartedGroup.{StartedGroup}
-use Rattle.roc_server.specs.Start.{uses_cell}
-use Rattle.roc_server.specs.State.{find_group}
+use Rattle.roc_step.specs.declared.started.StartedGroup.{StartedGroup}
+use Rattle.roc_step.specs.Start.{uses_cell}
+use Rattle.roc_step.specs.State.{find_group}
 use Rattle.roc_server.specs.Inner.Answering.{is_held_up, writes_one}
 use Rattle.roc_server.specs.Inner.Indexed.{group_ref_of, group_refs_of, holds_at, undecided, writes_cell, IsIndexOf}
 use Rattle.roc_server.specs.Inner.Planned.{before, IsPlanned}

@@ -19,7 +19,7 @@ use Rattle.roc_depgraph.specs.Deps.{IsDecided}
 use Rattle.roc_depgraph.proofs.Laws.{decided_stays}
 use Rattle.roc_depgraph.proofs.RisingLists.{none_listed, rising_one}
 use Rattle.roc_group.specs.declared.access.Access.{Access}
-use Rattle.roc_server_lists.specs.New.{AreDecided}
+use Rattle.roc_step.specs.New.{AreDecided}
 use Rattle.roc_server_lists.proofs.Learning.{keeps_front}
 use Rattle.roc_server_lists.proofs.RisingIds.{rising_of}
 use Rattle.roc_server.specs.declared.planned.Change.{Change}
@@ -27,8 +27,8 @@ use Rattle.roc_server.specs.declared.planned.Change.TheVariants.{Nothing, Asker,
 use Rattle.roc_server.specs.declared.planned.Lesson.{Lesson}
 use Rattle.roc_server.specs.declared.planned.Settlement.{Settlement}
 use Rattle.roc_server.specs.declared.server_data.ServerData.{ServerData}
-use Rattle.roc_server.specs.declared.started.StartedGroup.{StartedGroup}
-use Rattle.roc_server.specs.Forgets.{is_over, over}
+use Rattle.roc_step.specs.declared.started.StartedGroup.{StartedGroup}
+use Rattle.roc_step.specs.Forgets.{is_over, over}
 use Rattle.roc_server.specs.Inner.Answering.{decided_then, entered, is_held_up, newly, started_with, writes_one}
 use Rattle.roc_server.specs.Inner.Left.{links_left}
 use Rattle.roc_server.specs.Inner.Planned.{after, unlearnt, AreListsPlanned, IsPlanned, IsSettledPlanned}

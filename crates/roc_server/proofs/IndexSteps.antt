@@ -18,11 +18,11 @@ use Rattle.roc_rows.specs.Cells.{is_cell}
 use Rattle.roc_group.specs.declared.access.Access.{Access}
 use Rattle.roc_server_index.specs.declared.group_ref.GroupRef.{GroupRef}
 use Rattle.roc_server_index.specs.GroupRefs.{CellRefs, group_refs_at, spare_at, is_same_ref, is_ref_of, ends_with, with_group_ref, without, ChangesAt, HaveSameRefs, KeepsRoom, TakesRoomAt}
-use Rattle.roc_server.specs.declared.started.StartedGroup.{StartedGroup}
-use Rattle.roc_server.specs.Start.{uses_cell}
+use Rattle.roc_step.specs.declared.started.StartedGroup.{StartedGroup}
+use Rattle.roc_step.specs.Start.{uses_cell}
 use Rattle.roc_server.specs.Inner.ServerData.{AreSameGroups}
 use Rattle.roc_server.specs.Inner.Indexed.{group_ref_of, group_refs_of, undecided, IsIndexOf, IsGroupRefOf, AreGroupRefsOf, HasRoomFor, IsAddedAt, IsOutOf, IsOut, AreOut}
-use Rattle.roc_server.specs.State.{is_group, find_group}
+use Rattle.roc_step.specs.State.{is_group, find_group}
 use Rattle.roc_server.proofs.Stands.{indexed_is, group_refs_more, group_refs_same}
 
 abbrev Index : Type 0

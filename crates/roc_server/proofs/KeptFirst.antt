@@ -4,9 +4,9 @@ use Rattle.std.proofs.lemmas.Bool.{false≢true}
 use Rattle.std.specs.List.Sorted.{IsStrictlySortedBy}
 use Rattle.roc_sequence.specs.Lists.{Has}
 use Rattle.roc_sequence.specs.Places.{IsListed, NoneTwice}
-use Rattle.roc_server_lists.specs.Links.{all_entries, AreLinksOf}
-use Rattle.roc_server.specs.Below.{is_ended}
-use Rattle.roc_server.specs.Forgets.{over}
+use Rattle.roc_step.specs.Links.{all_entries, AreLinksOf}
+use Rattle.roc_step.specs.Below.{is_ended}
+use Rattle.roc_step.specs.Forgets.{over}
 use Rattle.roc_base.specs.declared.id.TxnId.{TxnId}
 use Rattle.roc_base.specs.TxnId.{is_txn, txn_cmp}
 use Rattle.roc_depgraph.specs.declared.known.KnownList.{KnownList}
@@ -16,7 +16,7 @@ use Rattle.std.specs.List.{AllByRecursion, flat_map}
 use Rattle.std.proofs.lemmas.Option.{none-some}
 use Rattle.roc_base.proofs.Ids.{none_rise, unlisted_none}
 use Rattle.roc_server_ancestors.specs.Least.{AreRows}
-use Rattle.roc_await.specs.Waits.{Waiting, none_waiting}
+use Rattle.roc_step.specs.Waits.{Waiting, none_waiting}
 use Rattle.roc_await.specs.Lacks.{AreLacks}
 use Rattle.roc_server.specs.Inner.Indexed.{IsIndexOf}
 use Rattle.roc_server.specs.Inner.ServerData.{IsConsistent, is_left, is_same_group}

@@ -15,28 +15,28 @@ use Rattle.roc_base.specs.Equalities.{is_txn-same}
 use Rattle.roc_base.specs.Edge.{Dependency}
 use Rattle.roc_base.specs.Edges.{united}
 use Rattle.roc_server_index.specs.GroupRefs.{group_refs_at}
-use Rattle.roc_await.specs.Waits.{Waiting, was_asked_for, with_all_asked}
+use Rattle.roc_step.specs.Waits.{Waiting, was_asked_for, with_all_asked}
 use Rattle.roc_await.specs.Lacks.{AreLacks}
-use Rattle.roc_await.specs.declared.waits.OpenFetch.{OpenFetch}
-use Rattle.roc_await.proofs.Asking.{asked_still, asked_all}
+use Rattle.roc_step.specs.declared.waits.OpenFetch.{OpenFetch}
+use Rattle.roc_step.proofs.Asking.{asked_still, asked_all}
 use Rattle.roc_await.proofs.OpenFetches.{some_all_asked}
 use Rattle.roc_depgraph.specs.declared.known.KnownList.{KnownList}
 use Rattle.roc_depgraph.specs.Deps.{is_known, IsKnown, IsDecided}
 use Rattle.roc_depgraph.proofs.Laws.{decided_stays}
 use Rattle.roc_rows.specs.Held.{Held}
 use Rattle.roc_server_ancestors.specs.Least.{AreRows, HeldRows}
-use Rattle.roc_server_lists.specs.Asking.{asked_of, open_after, waiting_after}
-use Rattle.roc_server_lists.specs.Links.{all_entries, AreLinksOf}
-use Rattle.roc_server_lists.specs.New.{AreNewTaken}
+use Rattle.roc_step.specs.Asking.{asked_of, open_after, waiting_after}
+use Rattle.roc_step.specs.Links.{all_entries, AreLinksOf}
+use Rattle.roc_step.specs.New.{AreNewTaken}
 use Rattle.roc_server_lists.proofs.Added.{decided_test}
 use Rattle.roc_server_lists.proofs.Learning.{keeps_front}
 use Rattle.roc_server_lists.proofs.NotOfNews.{unknown_not_of}
-use Rattle.roc_server_lists.proofs.Skipped.{left_still, left_by_third, passed}
+use Rattle.roc_step.proofs.Skipped.{left_still, left_by_third, passed}
 use Rattle.roc_server.specs.declared.planned.Lesson.{Lesson}
 use Rattle.roc_server.specs.declared.server_data.ServerData.{ServerData}
-use Rattle.roc_server.specs.Below.{is_ended}
-use Rattle.roc_server.specs.Lists.{is_missing, missing_from}
-use Rattle.roc_server.specs.State.{is_here, unrun, ServerState}
+use Rattle.roc_step.specs.Below.{is_ended}
+use Rattle.roc_step.specs.Lists.{is_missing, missing_from}
+use Rattle.roc_step.specs.State.{is_here, unrun, ServerState}
 use Rattle.roc_server.specs.Inner.Forgetting.{IsOverOf}
 use Rattle.roc_server.specs.Inner.Indexed.{undecided, AreGroupRefsOf, IsIndexOf}
 use Rattle.roc_server.specs.Inner.Left.{AreRowsBehind, IsOver}

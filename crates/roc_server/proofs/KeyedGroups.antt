@@ -14,8 +14,8 @@ use Rattle.roc_sequence.proofs.Members.{has_map, has_more}
 use Rattle.roc_base.specs.declared.id.TxnId.{TxnId}
 use Rattle.roc_base.specs.TxnId.{is_txn}
 use Rattle.roc_server.specs.declared.group_key.GroupKey.{GroupKey}
-use Rattle.roc_server.specs.declared.started.StartedGroup.{StartedGroup}
-use Rattle.roc_server.specs.State.{is_group}
+use Rattle.roc_step.specs.declared.started.StartedGroup.{StartedGroup}
+use Rattle.roc_step.specs.State.{is_group}
 use Rattle.roc_server.specs.Inner.Keyed.{AreKeyed, AreBelow, IsOnceHere, key_of, lesser}
 use Rattle.roc_server.proofs.Placed.{position-map, position-same, position-none, position-either}
 

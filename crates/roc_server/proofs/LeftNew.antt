@@ -16,11 +16,11 @@ use Rattle.roc_depgraph.specs.Reach.{ReachesOrIs}
 use Rattle.roc_depgraph.proofs.Listed.{has_listed}
 use Rattle.roc_server_ancestors.specs.Least.{AreAllRight, AreDecidedMates, AreRows, AreSameRows, HasRow, HeldRows}
 use Rattle.roc_server_ancestors.proofs.KeptRows.{decided_mates}
-use Rattle.roc_server_lists.specs.New.{AreNewTaken}
+use Rattle.roc_step.specs.New.{AreNewTaken}
 use Rattle.roc_server_lists.proofs.LeftRows.{mates_left, rows_left}
 use Rattle.roc_server.specs.declared.left.Left.{Left}
 use Rattle.roc_server.specs.declared.server_data.ServerData.{ServerData}
-use Rattle.roc_server.specs.Forgets.{is_over, over}
+use Rattle.roc_step.specs.Forgets.{is_over, over}
 use Rattle.roc_server.specs.Inner.Left.{followed_behind, links_left, rows_behind, AreRowsBehind, IsLeftAfter, IsOver}
 use Rattle.roc_server.specs.Inner.Taught.{AreListsRight, AreRowsFound}
 use Rattle.roc_server.proofs.FoundSettled.{over_found}

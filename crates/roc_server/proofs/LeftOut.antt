@@ -7,16 +7,16 @@ use Rattle.roc_sequence.proofs.Holds.{all_weaker, has_all}
 use Rattle.roc_sequence.proofs.Members.{from_has_map, from_has_filter}
 use Rattle.roc_base.specs.Edge.{Dependency}
 use Rattle.roc_base.specs.Edges.{united}
-use Rattle.roc_await.specs.declared.waits.OpenFetch.{OpenFetch}
-use Rattle.roc_await.specs.Waits.{was_asked_for}
-use Rattle.roc_server_lists.specs.Asking.{asked_of}
+use Rattle.roc_step.specs.declared.waits.OpenFetch.{OpenFetch}
+use Rattle.roc_step.specs.Waits.{was_asked_for}
+use Rattle.roc_step.specs.Asking.{asked_of}
 use Rattle.roc_depgraph.specs.declared.known.KnownList.{KnownList}
 use Rattle.roc_depgraph.specs.Deps.{is_known}
 use Rattle.roc_depgraph.proofs.Laws.{KeepsLists, known_stays}
-use Rattle.roc_server_lists.proofs.Skipped.{left_still, all_skipped}
-use Rattle.roc_server_lists.specs.Links.{all_entries}
-use Rattle.roc_server.specs.Lists.{is_missing, missing_from}
-use Rattle.roc_server.specs.State.{is_here, ServerState}
+use Rattle.roc_step.proofs.Skipped.{left_still, all_skipped}
+use Rattle.roc_step.specs.Links.{all_entries}
+use Rattle.roc_step.specs.Lists.{is_missing, missing_from}
+use Rattle.roc_step.specs.State.{is_here, ServerState}
 
 -- that an entry's transaction is missing is a test of that transaction
 pub missing_of : (s : ServerState) (known : List KnownList) (a b : Dependency) → a.from ≡ b.from → is_missing s known a ≡ is_missing s known b

@@ -10,8 +10,8 @@ use Rattle.roc_base.specs.Equalities.{is_txn-true}
 use Rattle.roc_depgraph.specs.declared.known.KnownList.{KnownList}
 use Rattle.roc_depgraph.specs.Closure.{IsRisingListOf}
 use Rattle.roc_depgraph.specs.Deps.{IsDecided}
-use Rattle.roc_server_lists.specs.Links.{without_links}
-use Rattle.roc_server_lists.proofs.ForgottenLinks.{decided_left, left_decided}
+use Rattle.roc_step.specs.Links.{without_links}
+use Rattle.roc_step.proofs.ForgottenLinks.{decided_left, left_decided}
 use Rattle.roc_server.specs.Inner.Left.{links_left}
 
 -- the lists were taken out and their entries left out by lists that are the forgotten ones

@@ -8,7 +8,6 @@ mod KeptLists
 mod MadeSteps
 mod AtOnce
 mod MessageSteps
-mod OneStep
 mod SameGroups
 mod StartSteps
 mod TaughtParts
@@ -34,7 +33,6 @@ mod ReadsBefore
 mod Restored
 mod KeyedGroups
 mod DoneSteps
-pub mod Raised
 mod MarkedLinks
 mod SettledRuns
 mod FoundSettled
@@ -48,4 +46,3 @@ mod ReadTurns
 mod ReadsTaken
 mod CopiedCells
 mod ReadsOfPlan
-mod KeptFolds

@@ -11,12 +11,12 @@ use Rattle.roc_msg.specs.Outbox.{Collected, HasRoomFor, HoldsAlso}
 use Rattle.roc_plan.specs.Groups.{Plan}
 use Rattle.roc_server.specs.declared.ahead.Ahead.{Ahead}
 use Rattle.roc_server.specs.declared.ahead.Outcome.{Outcome}
-use Rattle.roc_server.specs.declared.handled.Handled.{Handled}
-use Rattle.roc_server.specs.declared.kept_read.KeptRead.{KeptRead}
+use Rattle.roc_step.specs.declared.handled.Handled.{Handled}
+use Rattle.roc_step.specs.declared.kept_read.KeptRead.{KeptRead}
 use Rattle.roc_server.specs.declared.server_data.ServerData.{ServerData}
 use Rattle.roc_server.specs.declared.views.Views.{Views}
 use Rattle.roc_server.specs.Ahead.{needs_room, HasRoom, IsMadeFor, ServingFits}
-use Rattle.roc_server.specs.Fits.{AreGroupsOf, AreReadsOf}
+use Rattle.roc_step.specs.Fits.{AreGroupsOf, AreReadsOf}
 use Rattle.roc_server.specs.declared.planned.Change.{Change}
 use Rattle.roc_server.specs.declared.planned.Change.TheVariants.{Nothing, Asker, Group, Lists, Marks, Settled}
 use Rattle.roc_server.specs.declared.planned.Planned.{Planned}
@@ -24,11 +24,12 @@ use Rattle.roc_server.specs.Inner.Answering.{read_step, PlansReads}
 use Rattle.roc_server.specs.Inner.Held.{kept_before, made_ahead, made_of, reads_then, serving, viewing_of, viewing_then, IsHeld, IsServed}
 use Rattle.roc_server.specs.Inner.Planned.{after, before, rolled, IsPlanned}
 use Rattle.roc_server.specs.Inner.ServerData.{state_of, IsConsistent}
-use Rattle.roc_server.specs.Reads.{is_taken, reads_behind, with_accesses, AnswersReads, ReadStep}
-use Rattle.roc_server.specs.Runs.{accesses_of}
-use Rattle.roc_server.specs.State.{MadeAhead, ServerState, ServerStep, Viewing}
-use Rattle.roc_server.specs.Step.{Handles}
-use Rattle.roc_server_lists.specs.New.{AreDecided}
+use Rattle.roc_step.specs.Reads.{is_taken, reads_behind, with_accesses, AnswersReads, ReadStep}
+use Rattle.roc_step.specs.Runs.{accesses_of}
+use Rattle.roc_server.specs.State.{MadeAhead}
+use Rattle.roc_step.specs.State.{ServerState, ServerStep, Viewing}
+use Rattle.roc_step.specs.Step.{Handles}
+use Rattle.roc_step.specs.New.{AreDecided}
 use Rattle.roc_server.proofs.HeldUp.{decided_after}
 use Rattle.roc_server.proofs.MessageSteps.{IsStepFor}
 use Rattle.roc_server.proofs.Undone.{cells_aside}

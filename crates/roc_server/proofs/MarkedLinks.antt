@@ -11,8 +11,8 @@ use Rattle.roc_base.specs.Edge.{Dependency}
 use Rattle.roc_depgraph.specs.declared.known.KnownList.{KnownList}
 use Rattle.roc_depgraph.specs.Deps.{is_known, list_of, IsDecided, Precedes}
 use Rattle.roc_depgraph.proofs.Chains.{weaker_chain}
-use Rattle.roc_server_lists.specs.Links.{without_links}
-use Rattle.roc_server_lists.proofs.SameIds.{ids_without, known_alike}
+use Rattle.roc_step.specs.Links.{without_links}
+use Rattle.roc_step.proofs.SameIds.{ids_without, known_alike}
 
 module _ (done : TxnId → Bool) (links : List KnownList) where
   abbrev pub marked : List KnownList

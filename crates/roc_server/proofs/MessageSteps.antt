@@ -9,8 +9,8 @@ use Rattle.roc_msg.specs.declared.msg.Msg.{Msg}
 use Rattle.roc_msg.specs.declared.msg.Msg.TheVariants.{Start, Commit, Fetch, Known, Ended, Settled, Read}
 use Rattle.roc_msg.specs.Outbox.{Collected}
 use Rattle.roc_plan.specs.Groups.{Plan}
-use Rattle.roc_server.specs.declared.handled.Handled.{Handled}
-use Rattle.roc_server.specs.declared.handled.Handled.TheVariants.{Done}
+use Rattle.roc_step.specs.declared.handled.Handled.{Handled}
+use Rattle.roc_step.specs.declared.handled.Handled.TheVariants.{Done}
 use Rattle.roc_server.specs.declared.planned.Change.{Change}
 use Rattle.roc_server.specs.declared.planned.Change.TheVariants.{Nothing}
 use Rattle.roc_server.specs.declared.planned.Planned.{Planned}
@@ -19,14 +19,14 @@ use Rattle.roc_server.specs.Inner.ServerData.{state_of, IsConsistent}
 use Rattle.roc_server.specs.Inner.Planned.{after}
 use Rattle.roc_server.specs.Inner.Starts.{StartTaken}
 use Rattle.roc_server.specs.Inner.Taught.{Commits, Knows}
-use Rattle.roc_server.specs.Lists.{after_ended, after_fetch}
+use Rattle.roc_step.specs.Lists.{after_ended, after_fetch}
 use Rattle.roc_server.specs.Inner.Settled.{Settles}
-use Rattle.roc_server_lists.specs.New.{AreDecided}
-use Rattle.roc_server.specs.Reads.{read_judged, read_refusal}
-use Rattle.roc_server.specs.State.{ServerState, ServerStep}
-use Rattle.roc_server.specs.Step.{Findings, AreFindings, after_message, Handles}
+use Rattle.roc_step.specs.New.{AreDecided}
+use Rattle.roc_step.specs.Reads.{read_judged, read_refusal}
+use Rattle.roc_step.specs.State.{ServerState, ServerStep}
+use Rattle.roc_step.specs.Step.{Findings, AreFindings, after_message, Handles}
 use Rattle.roc_server.specs.Inner.Shown.{ShowsStep}
-use Rattle.roc_server_lists.proofs.TakenNew.{nothing_new}
+use Rattle.roc_step.proofs.TakenNew.{nothing_new}
 use Rattle.roc_server.proofs.StartSteps.{nothing_led}
 
 -- what is answered, kept and sent is the step of a message

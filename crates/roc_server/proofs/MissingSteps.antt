@@ -11,21 +11,21 @@ use Rattle.roc_base.specs.TxnId.{is_txn}
 use Rattle.roc_base.specs.Edge.{Dependency}
 use Rattle.roc_base.specs.Edges.{united}
 use Rattle.roc_base.proofs.Members.{IsAllOf-united}
-use Rattle.roc_await.specs.declared.waits.OpenFetch.{OpenFetch}
-use Rattle.roc_await.specs.Waits.{was_asked_for}
+use Rattle.roc_step.specs.declared.waits.OpenFetch.{OpenFetch}
+use Rattle.roc_step.specs.Waits.{was_asked_for}
 use Rattle.roc_depgraph.specs.declared.known.KnownList.{KnownList}
 use Rattle.roc_depgraph.specs.Deps.{is_known}
 use Rattle.roc_depgraph.proofs.Laws.{known_stays}
-use Rattle.roc_server_lists.specs.Asking.{asked_of}
-use Rattle.roc_server_lists.specs.Links.{all_entries, least_naming}
+use Rattle.roc_step.specs.Asking.{asked_of}
+use Rattle.roc_step.specs.Links.{all_entries, least_naming}
 use Rattle.roc_server_lists.proofs.FollowedLinks.{followed_among_all}
 use Rattle.roc_server_lists.proofs.Learning.{keeps_front}
-use Rattle.roc_server_lists.proofs.LeastNaming.{least_of_news}
-use Rattle.roc_server_lists.proofs.WithoutLinks.{entries_left, united_left}
+use Rattle.roc_step.proofs.LeastNaming.{least_of_news}
+use Rattle.roc_step.proofs.WithoutLinks.{entries_left, united_left}
 use Rattle.roc_server.specs.declared.server_data.ServerData.{ServerData}
-use Rattle.roc_server.specs.Below.{is_ended}
-use Rattle.roc_server.specs.Lists.{is_done, is_missing, links_of, missing_after}
-use Rattle.roc_server.specs.State.{is_here, ServerState}
+use Rattle.roc_step.specs.Below.{is_ended}
+use Rattle.roc_step.specs.Lists.{is_done, is_missing, links_of, missing_after}
+use Rattle.roc_step.specs.State.{is_here, ServerState}
 use Rattle.roc_server.specs.Inner.ServerData.{state_of, IsRight}
 use Rattle.roc_server.specs.Inner.Taught.{asked_by}
 use Rattle.roc_server.proofs.IndexSteps.{filter_both}

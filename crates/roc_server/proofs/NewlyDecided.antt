@@ -11,7 +11,7 @@ use Rattle.roc_depgraph.specs.Reach.{ReachesOrIs}
 use Rattle.roc_depgraph.proofs.Laws.{ancestor_back, ancestor_decided, KeepsLists}
 use Rattle.roc_server_ancestors.specs.Least.{AreRows, HasRow}
 use Rattle.roc_server_ancestors.proofs.KeptRows.{rows_stay}
-use Rattle.roc_server_lists.specs.New.{AreAllNew, AreNewTaken}
+use Rattle.roc_step.specs.New.{AreAllNew, AreNewTaken}
 use Rattle.roc_server_lists.proofs.Learning.{keeps_front}
 use Rattle.roc_server.specs.declared.server_data.ServerData.{ServerData}
 use Rattle.roc_server.specs.Inner.Taught.{IsLearning}

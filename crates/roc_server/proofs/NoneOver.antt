@@ -9,13 +9,13 @@ use Rattle.roc_base.specs.declared.node.Shard.{Shard}
 use Rattle.roc_base.specs.TxnId.{is_txn}
 use Rattle.roc_base.specs.Equalities.{is_txn-same}
 use Rattle.roc_base.proofs.Ids.{unlisted_none}
-use Rattle.roc_await.specs.declared.waits.OpenFetch.{OpenFetch}
+use Rattle.roc_step.specs.declared.waits.OpenFetch.{OpenFetch}
 use Rattle.roc_depgraph.specs.declared.known.KnownList.{KnownList}
-use Rattle.roc_server_lists.specs.Links.{without_links}
-use Rattle.roc_server_lists.proofs.WithoutLinks.{all_without_none}
+use Rattle.roc_step.specs.Links.{without_links}
+use Rattle.roc_step.proofs.WithoutLinks.{all_without_none}
 use Rattle.roc_server.specs.declared.server_data.ServerData.{ServerData}
-use Rattle.roc_server.specs.declared.started.StartedGroup.{StartedGroup}
-use Rattle.roc_server.specs.Forgets.{forget, is_over, over, without}
+use Rattle.roc_step.specs.declared.started.StartedGroup.{StartedGroup}
+use Rattle.roc_step.specs.Forgets.{forget, is_over, over, without}
 use Rattle.roc_server.specs.Inner.Forgetting.{IsOverOf}
 use Rattle.roc_server.specs.Inner.Left.{IsOver}
 use Rattle.roc_server.specs.Inner.ServerData.{state_of, IsConsistent, IsRight}

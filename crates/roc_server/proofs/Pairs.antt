@@ -12,8 +12,8 @@ use Rattle.roc_group.specs.declared.access.Access.{Access}
 use Rattle.roc_server_index.specs.declared.group_ref.GroupRef.{GroupRef}
 use Rattle.roc_server_index.specs.GroupRefs.{CellRefs, group_refs_at}
 use Rattle.roc_plan.specs.Groups.{Plan, is_immediate_of}
-use Rattle.roc_server.specs.declared.started.StartedGroup.{StartedGroup}
-use Rattle.roc_server.specs.Start.{uses_cell, is_user, users}
+use Rattle.roc_step.specs.declared.started.StartedGroup.{StartedGroup}
+use Rattle.roc_step.specs.Start.{uses_cell, is_user, users}
 use Rattle.roc_server.specs.Inner.Indexed.{group_ref_of, group_refs_of, undecided, IsIndexOf, is_looked_at}
 
 -- ---- counts of what passes a test, more a loop comes along

@@ -1,6 +1,6 @@
 -- What was planned, by its parts
 use Rattle.std.proofs.Common.{◌≡◌, Result, Ok, Err, IfOk, refl, sym, subst}
-use Rattle.roc_server.specs.declared.handled.Handled.{Handled}
+use Rattle.roc_step.specs.declared.handled.Handled.{Handled}
 use Rattle.roc_server.specs.declared.planned.Change.{Change}
 use Rattle.roc_server.specs.declared.planned.Change.TheVariants.{Nothing}
 use Rattle.roc_server.specs.declared.planned.Planned.{Planned}

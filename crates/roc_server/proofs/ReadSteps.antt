@@ -8,14 +8,14 @@ use Rattle.roc_msg.specs.Outbox.{Collected, HasSent}
 use Rattle.roc_plan.specs.Groups.{Plan}
 use Rattle.roc_group.specs.GroupRun.{group_uses}
 use Rattle.roc_rows.specs.Versions.{Counts}
-use Rattle.roc_server.specs.declared.handled.Handled.{Handled}
-use Rattle.roc_server.specs.declared.kept_read.KeptRead.{KeptRead}
+use Rattle.roc_step.specs.declared.handled.Handled.{Handled}
+use Rattle.roc_step.specs.declared.kept_read.KeptRead.{KeptRead}
 use Rattle.roc_server.specs.declared.planned.Change.{Change}
 use Rattle.roc_server.specs.declared.planned.Change.TheVariants.{Nothing, Asker, Group, Lists, Marks, Settled}
 use Rattle.roc_server.specs.declared.server_data.ServerData.{ServerData}
-use Rattle.roc_server_lists.specs.New.{AreDecided}
-use Rattle.roc_server.specs.Reads.{answering, in_turn, is_free, is_taken, read_call, readok_of, reads_with, with_accesses, ReadStep}
-use Rattle.roc_server.specs.State.{ServerState, Viewing}
+use Rattle.roc_step.specs.New.{AreDecided}
+use Rattle.roc_step.specs.Reads.{answering, in_turn, is_free, is_taken, read_call, readok_of, reads_with, with_accesses, ReadStep}
+use Rattle.roc_step.specs.State.{ServerState, Viewing}
 use Rattle.roc_server.specs.Inner.Answering.{decided_then, entered, is_free_then, is_held_up, read_step, readok_over, started_with, PlansReads}
 use Rattle.roc_server.specs.Inner.Held.{reads_then, viewing_then}
 use Rattle.roc_server.specs.Inner.Planned.{after, IsPlanned}

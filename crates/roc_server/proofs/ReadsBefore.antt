@@ -5,15 +5,15 @@ use Rattle.roc_sequence.specs.Places.{is_listed, IsListed, NoneTwice}
 use Rattle.roc_sequence.proofs.Places.{listed_test, listed_true}
 use Rattle.roc_base.specs.declared.id.TxnId.{TxnId}
 use Rattle.roc_base.specs.TxnId.{is_txn}
-use Rattle.roc_await.specs.Waits.{Awaited}
+use Rattle.roc_step.specs.Waits.{Awaited}
 use Rattle.roc_depgraph.specs.declared.known.KnownList.{KnownList}
 use Rattle.roc_depgraph.specs.Deps.{is_known, IsDecided}
 use Rattle.roc_depgraph.proofs.RisingLists.{rising_one}
 use Rattle.roc_server_lists.specs.Decided.{DecidedIds}
 use Rattle.roc_server_lists.proofs.FollowedLinks.{links_known}
-use Rattle.roc_server.specs.Below.{is_ended}
+use Rattle.roc_step.specs.Below.{is_ended}
 use Rattle.roc_server.proofs.MissingSteps.{filter_alike}
-use Rattle.roc_server_lists.specs.New.{AreDecided}
+use Rattle.roc_step.specs.New.{AreDecided}
 use Rattle.roc_group.specs.declared.access.Access.{Access}
 use Rattle.roc_plan.specs.Groups.{Plan}
 use Rattle.roc_server_index.specs.GroupRefs.{group_refs_at}
@@ -21,14 +21,14 @@ use Rattle.roc_server.specs.declared.ahead.Ahead.{Ahead}
 use Rattle.roc_server.specs.declared.planned.Change.{Change}
 use Rattle.roc_server.specs.declared.planned.Change.TheVariants.{Nothing, Asker, Group, Lists, Marks, Settled}
 use Rattle.roc_server.specs.declared.server_data.ServerData.{ServerData}
-use Rattle.roc_server.specs.declared.started.StartedGroup.{StartedGroup}
-use Rattle.roc_server.specs.Fits.{AreGroupsOf}
+use Rattle.roc_step.specs.declared.started.StartedGroup.{StartedGroup}
+use Rattle.roc_step.specs.Fits.{AreGroupsOf}
 use Rattle.roc_server.specs.Inner.Indexed.{group_refs_of, undecided, IsIndexOf}
 use Rattle.roc_server.specs.Inner.Held.{kept_before, IsHeld}
 use Rattle.roc_server.specs.Inner.Planned.{before, IsPlanned}
 use Rattle.roc_server.specs.Inner.ServerData.{is_same_group, AreSameGroups}
-use Rattle.roc_server.specs.Start.{is_user, users}
-use Rattle.roc_server.specs.State.{unrun}
+use Rattle.roc_step.specs.Start.{is_user, users}
+use Rattle.roc_step.specs.State.{unrun}
 use Rattle.roc_server.proofs.MadeSteps.{held_sound}
 use Rattle.roc_server.proofs.SameGroups.{fits_same, once_same}
 use Rattle.roc_server.proofs.Stands.{group_refs_same}

@@ -5,11 +5,11 @@ use Rattle.roc_sequence.proofs.Holds.{all_append}
 use Rattle.roc_msg.specs.declared.msg.Msg.{Msg}
 use Rattle.roc_msg.specs.declared.msg.Msg.TheVariants.{Read}
 use Rattle.roc_plan.specs.Groups.{Plan}
-use Rattle.roc_server.specs.declared.handled.Handled.{Handled}
-use Rattle.roc_server.specs.declared.handled.Handled.TheVariants.{Done, Gone, Ignored}
-use Rattle.roc_server.specs.declared.kept_read.KeptRead.{KeptRead}
-use Rattle.roc_server.specs.Fits.{AreReadsOf, IsReadOf}
-use Rattle.roc_server.specs.Reads.{in_turn, is_read_before, is_same_read, put_read, reads_with, with_read}
+use Rattle.roc_step.specs.declared.handled.Handled.{Handled}
+use Rattle.roc_step.specs.declared.handled.Handled.TheVariants.{Done, Gone, Ignored}
+use Rattle.roc_step.specs.declared.kept_read.KeptRead.{KeptRead}
+use Rattle.roc_step.specs.Fits.{AreReadsOf, IsReadOf}
+use Rattle.roc_step.specs.Reads.{in_turn, is_read_before, is_same_read, put_read, reads_with, with_read}
 use Rattle.roc_server.specs.Inner.Answering.{TakenFits}
 
 module _ (P : KeptRead → Type 0) where

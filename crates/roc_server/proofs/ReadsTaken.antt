@@ -6,14 +6,14 @@ use Rattle.roc_msg.specs.declared.msg.Msg.TheVariants.{Read}
 use Rattle.roc_msg.specs.Outbox.{Collected}
 use Rattle.roc_msg.specs.declared.reason.Reason.TheVariants.{BadProc, BadGroup, BadInputs, NotHere}
 use Rattle.roc_plan.specs.Groups.{Plan, procedure_of, groups_of, is_view_of, shard_of, group_place}
-use Rattle.roc_server.specs.declared.handled.Handled.{Handled}
-use Rattle.roc_server.specs.declared.handled.Handled.TheVariants.{Done, Gone, Ignored}
-use Rattle.roc_server.specs.declared.kept_read.KeptRead.{KeptRead}
-use Rattle.roc_server.specs.Below.{is_ended}
-use Rattle.roc_server.specs.Fits.{IsReadOf}
-use Rattle.roc_server.specs.Reads.{after_read, read_judged}
-use Rattle.roc_server.specs.State.{first_answer, ServerState, ServerStep}
-use Rattle.roc_server.specs.Step.{Findings, after_message}
+use Rattle.roc_step.specs.declared.handled.Handled.{Handled}
+use Rattle.roc_step.specs.declared.handled.Handled.TheVariants.{Done, Gone, Ignored}
+use Rattle.roc_step.specs.declared.kept_read.KeptRead.{KeptRead}
+use Rattle.roc_step.specs.Below.{is_ended}
+use Rattle.roc_step.specs.Fits.{IsReadOf}
+use Rattle.roc_step.specs.Reads.{after_read, read_judged}
+use Rattle.roc_step.specs.State.{first_answer, ServerState, ServerStep}
+use Rattle.roc_step.specs.Step.{Findings, after_message}
 use Rattle.roc_server.specs.Inner.Answering.{TakenFits}
 use Rattle.roc_server.proofs.MessageSteps.{IsStepFor}
 

@@ -1,7 +1,7 @@
 -- What runs leave to put back
 use Rattle.std.proofs.Common.{◌≡◌, ℕ, ℤ, zero, suc, ◌≤◌, List, [], ◌∷◌, ◌++◌, Option, Some, length, slice_get, slice_set, refl, sym, ap, ◌∙◌, arith}
 use Rattle.roc_server.specs.declared.runs.Earlier.{Earlier}
-use Rattle.roc_server.specs.declared.started.StartedGroup.{StartedGroup}
+use Rattle.roc_step.specs.declared.started.StartedGroup.{StartedGroup}
 use Rattle.roc_server.specs.Inner.Runs.{restored, with_later_at}
 
 pub restored-none : (ws : List Earlier) (es : List StartedGroup) → ws ≡ [] → restored ws es ≡ es

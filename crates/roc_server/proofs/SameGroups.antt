@@ -9,12 +9,12 @@ use Rattle.roc_sequence.proofs.Members.{from_has_filter}
 use Rattle.roc_base.specs.declared.id.TxnId.{TxnId}
 use Rattle.roc_base.specs.TxnId.{is_txn}
 use Rattle.roc_plan.specs.Groups.{Plan}
-use Rattle.roc_server.specs.declared.started.StartedGroup.{StartedGroup}
-use Rattle.roc_server.specs.Runs.{group_call}
-use Rattle.roc_server.specs.Fits.{IsCallOf, AreGroupsOf}
+use Rattle.roc_step.specs.declared.started.StartedGroup.{StartedGroup}
+use Rattle.roc_step.specs.Runs.{group_call}
+use Rattle.roc_step.specs.Fits.{IsCallOf, AreGroupsOf}
 use Rattle.roc_server.specs.Inner.ServerData.{is_same_group, AreSameGroups}
-use Rattle.roc_server.specs.State.{unrun}
-use Rattle.roc_server.specs.State.{is_group, find_group, is_here}
+use Rattle.roc_step.specs.State.{unrun}
+use Rattle.roc_step.specs.State.{is_group, find_group, is_here}
 
 pub same_own : (e : StartedGroup) → is_same_group e e ≡ true
 same_own e = grind (arith, nat_tests)

@@ -7,30 +7,30 @@ use Rattle.roc_sequence.specs.Places.{is_listed, IsListed}
 use Rattle.roc_base.specs.declared.id.TxnId.{TxnId}
 use Rattle.roc_base.specs.declared.node.Shard.{Shard}
 use Rattle.roc_base.specs.TxnId.{is_txn}
-use Rattle.roc_await.specs.Waits.{was_asked_for, without_asked}
+use Rattle.roc_step.specs.Waits.{was_asked_for, without_asked}
 use Rattle.roc_depgraph.specs.Deps.{is_known, IsDecided}
 use Rattle.roc_msg.specs.declared.msg.Msg.TheVariants as msg
 use Rattle.roc_msg.specs.Outbox.{Collected, HasSent}
 use Rattle.roc_plan.specs.Groups.{Plan}
 use Rattle.roc_rows.specs.Held.{Held}
-use Rattle.roc_server.specs.declared.started.StartedGroup.{StartedGroup}
-use Rattle.roc_server_lists.specs.Links.{without_links}
-use Rattle.roc_server_lists.specs.New.{AreNewTaken}
-use Rattle.roc_server_lists.proofs.TakenNew.{nothing_new}
-use Rattle.roc_server.specs.declared.handled.Handled.{Handled}
-use Rattle.roc_server.specs.declared.handled.Handled.TheVariants.{Done, Gone}
+use Rattle.roc_step.specs.declared.started.StartedGroup.{StartedGroup}
+use Rattle.roc_step.specs.Links.{without_links}
+use Rattle.roc_step.specs.New.{AreNewTaken}
+use Rattle.roc_step.proofs.TakenNew.{nothing_new}
+use Rattle.roc_step.specs.declared.handled.Handled.{Handled}
+use Rattle.roc_step.specs.declared.handled.Handled.TheVariants.{Done, Gone}
 use Rattle.roc_server.specs.declared.planned.Change.{Change}
 use Rattle.roc_server.specs.declared.planned.Change.TheVariants.{Nothing, Asker, Group, Lists, Marks, Settled}
 use Rattle.roc_server.specs.declared.planned.Settlement.{Settlement}
 use Rattle.roc_server.specs.declared.server_data.ServerData.{ServerData}
 use Rattle.roc_server.specs.declared.runs.Earlier.{Earlier}
 use Rattle.roc_server.specs.declared.settled.Settling.{Settling}
-use Rattle.roc_server.specs.Below.{is_ended, raised}
-use Rattle.roc_server.specs.Forgets.{forget, forgetting}
-use Rattle.roc_server.specs.Lists.{after_settled, decides, is_settled, lists_settled}
-use Rattle.roc_server.specs.Runs.{accesses_of, all_buffered, commitok, commitok_of, take_all}
-use Rattle.roc_server.specs.State.{hearing, is_here, refused, unrun, ServerState}
-use Rattle.roc_server.specs.Step.{links_after}
+use Rattle.roc_step.specs.Below.{is_ended, raised}
+use Rattle.roc_step.specs.Forgets.{forget, forgetting}
+use Rattle.roc_step.specs.Lists.{after_settled, decides, is_settled, lists_settled}
+use Rattle.roc_step.specs.Runs.{accesses_of, all_buffered, commitok, commitok_of, take_all}
+use Rattle.roc_step.specs.State.{hearing, is_here, refused, unrun, ServerState}
+use Rattle.roc_step.specs.Step.{links_after}
 use Rattle.roc_server.specs.Inner.Shown.{ShowsStep}
 use Rattle.roc_await.specs.Lacks.{AreLacks}
 use Rattle.roc_server.specs.Inner.Behind.{IsBehind}
@@ -40,7 +40,7 @@ use Rattle.roc_server.specs.Inner.ServerData.{state_of, holding, IsConsistent, I
 use Rattle.roc_server.specs.Inner.Settled.{links_settled, HasRoomToSettle, IsHearing, IsSettling, Settles, SettlesRuns}
 use Rattle.roc_server.specs.Inner.Taught.{KeepsBesideRuns, KeepsPlans, RunsDecided}
 use Rattle.roc_server.proofs.Alike.{alike_same}
-use Rattle.roc_server.proofs.Raised.{ended_still}
+use Rattle.roc_step.proofs.Raised.{ended_still}
 use Rattle.roc_server.proofs.SameGroups.{fits_same, fits_some, here_same}
 use Rattle.roc_server.proofs.TaughtParts.{back_to}
 use Rattle.roc_server.proofs.Undone.{besides_alike}

@@ -14,9 +14,9 @@ use Rattle.roc_base.specs.declared.node.Shard.{Shard}
 use Rattle.roc_base.specs.TxnId.{is_txn, txn_cmp}
 use Rattle.roc_base.specs.Edge.{Dependency}
 use Rattle.roc_await.specs.declared.lack.Lack.{Lack}
-use Rattle.roc_await.specs.declared.waits.OpenFetch.{OpenFetch}
+use Rattle.roc_step.specs.declared.waits.OpenFetch.{OpenFetch}
 use Rattle.roc_await.specs.Lacks.{AreLacks}
-use Rattle.roc_await.specs.Waits.{Awaited, Waiting, was_asked_for, without_asked}
+use Rattle.roc_step.specs.Waits.{Awaited, Waiting, was_asked_for, without_asked}
 use Rattle.roc_depgraph.specs.declared.known.KnownList.{KnownList}
 use Rattle.roc_depgraph.specs.Closure.{IsRisingListOf}
 use Rattle.roc_depgraph.specs.Deps.{is_known, IsDecided}
@@ -25,17 +25,17 @@ use Rattle.roc_rows.specs.Held.{Held}
 use Rattle.roc_server_ancestors.specs.Least.{AreRows, HeldRows}
 use Rattle.roc_server_lists.specs.Decided.{DecidedIds}
 use Rattle.roc_server_index.specs.GroupRefs.{CellRefs}
-use Rattle.roc_server_lists.specs.Links.{all_entries}
-use Rattle.roc_server_lists.specs.New.{AreNewTaken}
+use Rattle.roc_step.specs.Links.{all_entries}
+use Rattle.roc_step.specs.New.{AreNewTaken}
 use Rattle.roc_server_lists.proofs.Added.{decided_test}
 use Rattle.roc_server_lists.proofs.FollowedLinks.{links_later, links_marked}
 use Rattle.roc_server_lists.proofs.RisingIds.{some_rising}
-use Rattle.roc_server_lists.proofs.WithoutLinks.{entries_left}
+use Rattle.roc_step.proofs.WithoutLinks.{entries_left}
 use Rattle.roc_server.specs.declared.planned.Heard.{Heard}
 use Rattle.roc_server.specs.declared.planned.Settlement.{Settlement}
 use Rattle.roc_server.specs.declared.server_data.ServerData.{ServerData}
-use Rattle.roc_server.specs.Below.{is_ended}
-use Rattle.roc_server.specs.Forgets.{forget}
+use Rattle.roc_step.specs.Below.{is_ended}
+use Rattle.roc_step.specs.Forgets.{forget}
 use Rattle.roc_server.specs.Inner.Behind.{IsBehind, IsKept, IsKeptBy}
 use Rattle.roc_server.specs.Inner.Forgetting.{IsOverOf}
 use Rattle.roc_server.specs.Inner.Indexed.{AreGroupRefsOf, AreOut, IsIndexOf}
@@ -46,7 +46,7 @@ use Rattle.roc_server.specs.Inner.Settled.{links_settled}
 use Rattle.roc_server.proofs.IndexSteps.{filter_both, index_decided}
 use Rattle.roc_server.proofs.KeptLists.{among_more, more_among, once_more, refs_ran, some_more}
 use Rattle.roc_server.proofs.MarkedLinks.{marked_known, still_decided}
-use Rattle.roc_server.proofs.Raised.{ended_still}
+use Rattle.roc_step.proofs.Raised.{ended_still}
 use Rattle.roc_server.proofs.SameGroups.{here_same, once_same}
 use Rattle.roc_server.proofs.SomeLeft.{any_some, members}
 

@@ -13,11 +13,11 @@ use Rattle.roc_rows.specs.declared.cell.Cell.{Cell}
 use Rattle.roc_server_index.specs.declared.group_ref.GroupRef.{GroupRef}
 use Rattle.roc_server_index.specs.GroupRefs.{CellRefs, group_refs_at}
 use Rattle.roc_plan.specs.Groups.{Plan, groups_of}
-use Rattle.roc_server.specs.declared.started.StartedGroup.{StartedGroup}
-use Rattle.roc_server.specs.Fits.{IsCallOf, AreGroupsOf}
-use Rattle.roc_server.specs.Runs.{group_call}
-use Rattle.roc_server.specs.Start.{uses_cell}
-use Rattle.roc_server.specs.State.{unrun, find_group}
+use Rattle.roc_step.specs.declared.started.StartedGroup.{StartedGroup}
+use Rattle.roc_step.specs.Fits.{IsCallOf, AreGroupsOf}
+use Rattle.roc_step.specs.Runs.{group_call}
+use Rattle.roc_step.specs.Start.{uses_cell}
+use Rattle.roc_step.specs.State.{unrun, find_group}
 use Rattle.roc_server.specs.Inner.ServerData.{is_same_group, AreSameGroups}
 use Rattle.roc_server.specs.Inner.Indexed.{group_ref_of, group_refs_of, IsIndexOf, IsGroupRefOf, IsGroupRefWithin}
 use Rattle.roc_server.proofs.SameGroups.{same_own, same_swap}

@@ -22,24 +22,24 @@ use Rattle.roc_rows.specs.Held.{Held}
 use Rattle.roc_rows.specs.Store.{Store}
 use Rattle.roc_rows.specs.declared.cell.Cell.{Cell}
 use Rattle.roc_server_index.specs.GroupRefs.{CellRefs, group_refs_at, is_same_ref}
-use Rattle.roc_server.specs.declared.handled.Handled.TheVariants.{Done, Gone, Ignored}
+use Rattle.roc_step.specs.declared.handled.Handled.TheVariants.{Done, Gone, Ignored}
 use Rattle.roc_server.specs.declared.server_data.ServerData.{ServerData}
-use Rattle.roc_server.specs.declared.started.StartedGroup.{StartedGroup}
-use Rattle.roc_server_lists.specs.New.{AreLedTo}
-use Rattle.roc_server.specs.Start.{has_procedure, has_counts, differs, start_refusal, start_judged, start_taken, start_new, startok_of, edges_for, new_group}
-use Rattle.roc_server.specs.Runs.{accesses_of}
+use Rattle.roc_step.specs.declared.started.StartedGroup.{StartedGroup}
+use Rattle.roc_step.specs.New.{AreLedTo}
+use Rattle.roc_step.specs.Start.{has_procedure, has_counts, differs, start_refusal, start_judged, start_taken, start_new, startok_of, edges_for, new_group}
+use Rattle.roc_step.specs.Runs.{accesses_of}
 use Rattle.roc_server.specs.Inner.Shown.{ShowsStep}
 use Rattle.std.specs.List.{AllByRecursion}
 use Rattle.std.specs.Option.{option_map}
-use Rattle.roc_server_lists.specs.Links.{all_entries}
+use Rattle.roc_step.specs.Links.{all_entries}
 use Rattle.roc_server_lists.proofs.FollowedLinks.{links_known}
-use Rattle.roc_server.specs.Below.{is_ended}
-use Rattle.roc_server.specs.declared.handled.Handled.{Handled}
+use Rattle.roc_step.specs.Below.{is_ended}
+use Rattle.roc_step.specs.declared.handled.Handled.{Handled}
 use Rattle.roc_base.proofs.Ids.{none_rise}
 use Rattle.roc_sequence.proofs.Holds.{all_weaker, any_has, has_any}
 use Rattle.roc_sequence.proofs.Members.{has_left}
-use Rattle.roc_await.specs.Waits.{was_asked_for}
-use Rattle.roc_server_lists.proofs.Skipped.{left_still}
+use Rattle.roc_step.specs.Waits.{was_asked_for}
+use Rattle.roc_step.proofs.Skipped.{left_still}
 use Rattle.roc_server.specs.declared.planned.Change.TheVariants.{Group}
 use Rattle.roc_server.specs.declared.planned.Planned.{Planned}
 use Rattle.roc_server.specs.Inner.Indexed.{group_ref_of, HasRoomFor, IsIndexOf, IsAddedAt}
@@ -47,7 +47,7 @@ use Rattle.roc_server.specs.Inner.Keyed.{Entered}
 use Rattle.roc_server.specs.Inner.Planned.{after, rolled, IsGroupPlanned, IsPlannedFrom}
 use Rattle.roc_server.specs.Inner.ServerData.{state_of, IsConsistent, IsRight, IsSame, is_left, is_same_group}
 use Rattle.roc_server.specs.Inner.Starts.{first_reason, start_reasons, start_fault, IsNewGroup, KeepsBeside, StartTaken, StartsNew, TellsStart}
-use Rattle.roc_server.specs.State.{first_answer, is_group, find_group, ServerState, ServerStep, is_here}
+use Rattle.roc_step.specs.State.{first_answer, is_group, find_group, ServerState, ServerStep, is_here}
 use Rattle.roc_server.proofs.SameGroups.{same_own}
 use Rattle.roc_server.proofs.IndexSteps.{index_started, none_yet}
 use Rattle.roc_server.proofs.Undone.{cells_aside, tried_in_vain}

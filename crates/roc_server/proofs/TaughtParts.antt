@@ -7,12 +7,12 @@ use Rattle.roc_base.specs.declared.id.TxnId.{TxnId}
 use Rattle.roc_base.specs.declared.node.Shard.{Shard}
 use Rattle.roc_base.specs.TxnId.{is_txn}
 use Rattle.roc_base.specs.Edge.{Dependency}
-use Rattle.roc_await.specs.Learning.{AreLearnable}
+use Rattle.roc_step.specs.Learning.{AreLearnable}
 use Rattle.roc_depgraph.specs.declared.known.KnownList.{KnownList}
 use Rattle.roc_depgraph.specs.Deps.{is_known}
-use Rattle.roc_await.specs.Waits.{Waiting, was_asked_for}
+use Rattle.roc_step.specs.Waits.{Waiting, was_asked_for}
 use Rattle.roc_await.specs.Lacks.{AreLacks}
-use Rattle.roc_await.specs.declared.waits.OpenFetch.{OpenFetch}
+use Rattle.roc_step.specs.declared.waits.OpenFetch.{OpenFetch}
 use Rattle.roc_base.specs.Edges.{united}
 use Rattle.roc_server_ancestors.specs.Least.{row_of}
 use Rattle.roc_depgraph.proofs.Laws.{decided_stays}
@@ -20,20 +20,20 @@ use Rattle.roc_msg.specs.Outbox.{Collected, HasSent}
 use Rattle.roc_plan.specs.Groups.{Plan}
 use Rattle.roc_rows.specs.Held.{Held}
 use Rattle.roc_rows.specs.Store.{Store}
-use Rattle.roc_server_lists.specs.Asking.{asked_of, waiting_after}
-use Rattle.roc_server_lists.specs.Links.{all_entries, least_naming, without_links, AreLinksOf}
-use Rattle.roc_server_lists.specs.New.{AreNewTaken}
+use Rattle.roc_step.specs.Asking.{asked_of, waiting_after}
+use Rattle.roc_step.specs.Links.{all_entries, least_naming, without_links, AreLinksOf}
+use Rattle.roc_step.specs.New.{AreNewTaken}
 use Rattle.roc_server_lists.proofs.FollowedLinks.{links_ids, links_learnable, links_learnt}
 use Rattle.roc_server_lists.proofs.Learning.{keeps_front}
-use Rattle.roc_server_lists.proofs.SameIds.{ids_without}
+use Rattle.roc_step.proofs.SameIds.{ids_without}
 use Rattle.roc_server.specs.declared.found.Found.{Found}
 use Rattle.roc_server.specs.declared.learning.Named.{Named}
 use Rattle.roc_server.specs.declared.server_data.ServerData.{ServerData}
-use Rattle.roc_server.specs.declared.started.StartedGroup.{StartedGroup}
-use Rattle.roc_server.specs.Below.{is_ended}
-use Rattle.roc_server.specs.Lists.{is_done, is_missing, links_of, missing_after}
-use Rattle.roc_server.specs.Runs.{accesses_of, all_buffered, take_all}
-use Rattle.roc_server.specs.State.{is_here, unrun}
+use Rattle.roc_step.specs.declared.started.StartedGroup.{StartedGroup}
+use Rattle.roc_step.specs.Below.{is_ended}
+use Rattle.roc_step.specs.Lists.{is_done, is_missing, links_of, missing_after}
+use Rattle.roc_step.specs.Runs.{accesses_of, all_buffered, take_all}
+use Rattle.roc_step.specs.State.{is_here, unrun}
 use Rattle.roc_server.specs.declared.planned.Lesson.{Lesson}
 use Rattle.roc_server.specs.Inner.Left.{IsOver}
 use Rattle.roc_server.specs.Inner.Planned.{front, unlearnt, with_lists, AreListsPlanned}

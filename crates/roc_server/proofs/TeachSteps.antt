@@ -8,16 +8,16 @@ use Rattle.roc_depgraph.specs.Deps.{IsDecided}
 use Rattle.roc_msg.specs.Outbox.{Collected}
 use Rattle.roc_msg.specs.declared.outbox.Outgoing.{Outgoing}
 use Rattle.roc_plan.specs.Groups.{Plan}
-use Rattle.roc_server.specs.declared.handled.Handled.TheVariants.{Done}
+use Rattle.roc_step.specs.declared.handled.Handled.TheVariants.{Done}
 use Rattle.roc_server.specs.declared.server_data.ServerData.{ServerData}
-use Rattle.roc_server.specs.Forgets.{forget, forgetting}
-use Rattle.roc_server.specs.Runs.{commitok, commitok_of, take_all}
-use Rattle.roc_server_lists.specs.New.{AreNewTaken}
-use Rattle.roc_server_lists.specs.Asking.{knowns_for, fetch_from}
-use Rattle.roc_server.specs.Lists.{links_of, lists_after, missing_after, taught}
+use Rattle.roc_step.specs.Forgets.{forget, forgetting}
+use Rattle.roc_step.specs.Runs.{commitok, commitok_of, take_all}
+use Rattle.roc_step.specs.New.{AreNewTaken}
+use Rattle.roc_step.specs.Asking.{knowns_for, fetch_from}
+use Rattle.roc_step.specs.Lists.{links_of, lists_after, missing_after, taught}
 use Rattle.roc_server.specs.Inner.ServerData.{state_of, AreSameGroups, IsConsistent}
 use Rattle.roc_server.specs.Inner.Taught.{own_again, with_own, Taken, Teaches}
-use Rattle.roc_server.specs.State.{is_here, ServerState, ServerStep}
+use Rattle.roc_step.specs.State.{is_here, ServerState, ServerStep}
 use Rattle.roc_server.specs.Inner.Shown.{ShowsStep}
 use Rattle.roc_server.proofs.SameGroups.{fits_same, fits_some, here_same}
 

@@ -1,7 +1,7 @@
 -- A step that is undone, and what does not count
 use Rattle.std.proofs.Common.{◌≡◌, ◌++◌, List, Some, unwrap_or, map, refl, sym, ap, subst, ◌∙◌}
-use Rattle.roc_await.specs.Learning.{AreLearnable}
-use Rattle.roc_await.specs.Waits.{Awaited}
+use Rattle.roc_step.specs.Learning.{AreLearnable}
+use Rattle.roc_step.specs.Waits.{Awaited}
 use Rattle.roc_depgraph.specs.declared.known.KnownList.{KnownList}
 use Rattle.roc_rows.specs.Held.{Held}
 use Rattle.roc_server_ancestors.specs.Least.{row_of}

@@ -4,11 +4,12 @@ use Rattle.roc_msg.specs.declared.msg.Msg.{Msg}
 use Rattle.roc_msg.specs.declared.msg.Msg.TheVariants.{Start, Commit, Fetch, Known, Ended, Settled, Read}
 use Rattle.roc_msg.specs.Outbox.{Collected, HasRoomFor}
 use Rattle.roc_plan.specs.Groups.{Plan}
-use Rattle.roc_server.specs.Fits.{AreGroupsOf, AreReadsOf, ServerFits}
-use Rattle.roc_server.specs.Runs.{accesses_of}
-use Rattle.roc_server.specs.Reads.{AnswersReads, ReadStep}
-use Rattle.roc_server.specs.State.{MadeAhead, ServerState, ServerStep, Serving, Viewing}
-use Rattle.roc_server.specs.Step.{Handles}
+use Rattle.roc_step.specs.Fits.{AreGroupsOf, AreReadsOf, ServerFits}
+use Rattle.roc_step.specs.Runs.{accesses_of}
+use Rattle.roc_step.specs.Reads.{AnswersReads, ReadStep}
+use Rattle.roc_server.specs.State.{MadeAhead, Serving}
+use Rattle.roc_step.specs.State.{ServerState, ServerStep, Viewing}
+use Rattle.roc_step.specs.Step.{Handles}
 
 -- it is what comes of its message under the plan
 pub record IsMadeFor (plan : Plan) (s : ServerState) (v : Viewing) (made : MadeAhead) : Type 0 where

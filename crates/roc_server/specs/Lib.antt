@@ -1,16 +1,3 @@
 pub mod Ahead
-pub mod Below
 pub mod State
-pub mod First
-pub mod Start
-pub mod Runs
-pub mod Forgets
-pub mod Lists
-pub mod Fits
-pub mod Reads
-pub mod Step
-pub mod Waiting
-pub mod Restarts
-pub mod Renewed
-pub mod Codes
 pub mod Inner

@@ -1,10 +1,10 @@
 //! What was planned is done, or what was tried for it is undone: neither takes memory.
 ghost use Rattle.std.specs.Prelude.{◌≡◌, ◌<◌, not, filter, if◌then◌else◌};
 ghost use Rattle.std.specs.List.Sorted.{IsStrictlySortedBy};
-ghost use Rattle.roc_await.specs.Waits.{without_asked};
+ghost use Rattle.roc_step.specs.Waits.{without_asked};
 ghost use Rattle.roc_base.specs.TxnId.{is_txn, txn_cmp};
 ghost use Rattle.roc_sequence.specs.Places.{is_listed};
-ghost use Rattle.roc_server.specs.Forgets.{forget};
+ghost use Rattle.roc_step.specs.Forgets.{forget};
 ghost use Rattle.roc_base.specs.declared.node.Shard.{Shard as At};
 ghost use Rattle.roc_server.specs.declared.planned.Change.TheVariants.{Asker as AskerComes, Group as GroupComes, Lists as ListsCome, Marks as MarksRise, Settled as SettledComes};
 ghost use Rattle.roc_server.specs.Inner.Planned.{after, before, AreListsPlanned, AreMarksPlanned, IsGroupPlanned, IsPlanned, IsSettledPlanned};
@@ -12,6 +12,7 @@ ghost use Rattle.roc_server.specs.Inner.Forgetting.{Forgets, IsForgettable, IsOv
 ghost use Rattle.roc_server.specs.Inner.Left.{rows_behind};
 ghost use Rattle.roc_server.specs.Inner.ServerData.{state_of, IsConsistent};
 
+use crate::StartedGroup;
 use crate::behind::keep_behind;
 use crate::found::keep_found;
 use crate::indexed::{add_group, take_out};
@@ -21,7 +22,6 @@ use crate::planned::{Change, Heard, Lesson, Settlement};
 use crate::runs::put_back;
 use crate::server_data::ServerData;
 use crate::settled::Settling;
-use crate::started::StartedGroup;
 use roc_await::{Asker, Waits};
 use roc_base::TxnId;
 use roc_server_ancestors::Ancestors;

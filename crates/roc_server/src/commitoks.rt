@@ -1,9 +1,9 @@
 //! Answers to those that are decided.
 ghost use Rattle.std.specs.Prelude.{◌≡◌, ◌++◌, ◌∷◌, [], filter, map, OnOk};
 ghost use Rattle.roc_msg.specs.Outbox.{HasSent};
-ghost use Rattle.roc_server.specs.Fits.{AreGroupsOf};
-ghost use Rattle.roc_server.specs.Runs.{commitok};
-ghost use Rattle.roc_server.specs.State.{is_here};
+ghost use Rattle.roc_step.specs.Fits.{AreGroupsOf};
+ghost use Rattle.roc_step.specs.Runs.{commitok};
+ghost use Rattle.roc_step.specs.State.{is_here};
 
 use crate::groups::is_here;
 use crate::runs::outs_here;

@@ -5,13 +5,13 @@ ghost use Rattle.roc_base.specs.declared.node.Shard.{Shard as At};
 ghost use Rattle.roc_msg.specs.Facts.{AreFacts};
 ghost use Rattle.roc_sequence.specs.Places.{is_listed};
 ghost use Rattle.roc_msg.specs.declared.reason.Reason.TheVariants.{NotHere};
-ghost use Rattle.roc_server.specs.Below.{is_ended};
-ghost use Rattle.roc_server.specs.Fits.{AreGroupsOf};
-ghost use Rattle.roc_server.specs.declared.handled.Handled.TheVariants.{Gone, Ignored};
+ghost use Rattle.roc_step.specs.Below.{is_ended};
+ghost use Rattle.roc_step.specs.Fits.{AreGroupsOf};
+ghost use Rattle.roc_step.specs.declared.handled.Handled.TheVariants.{Gone, Ignored};
 ghost use Rattle.roc_server.specs.Inner.Planned.{after, IsPlannedFrom};
 ghost use Rattle.roc_server.specs.Inner.ServerData.{state_of, IsConsistent, IsSame};
 ghost use Rattle.roc_server.specs.Inner.Taught.{Commits, Knows};
-ghost use Rattle.roc_server.specs.Lists.{commit_refusal, known_refusal};
+ghost use Rattle.roc_step.specs.Lists.{commit_refusal, known_refusal};
 
 use crate::Handled;
 use crate::groups::is_here;

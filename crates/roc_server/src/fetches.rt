@@ -4,12 +4,12 @@ ghost use Rattle.roc_base.specs.declared.node.Node.TheVariants.{Server};
 ghost use Rattle.roc_msg.specs.Outbox.{HasSent, HoldsSame};
 ghost use Rattle.roc_msg.specs.declared.msg.Msg.TheVariants.{Settled};
 ghost use Rattle.roc_msg.specs.declared.reason.Reason.TheVariants.{NotHere};
-ghost use Rattle.roc_server.specs.Below.{is_ended, mark_of};
-ghost use Rattle.roc_server.specs.declared.handled.Handled.TheVariants.{Done, Ignored};
+ghost use Rattle.roc_step.specs.Below.{is_ended, mark_of};
+ghost use Rattle.roc_step.specs.declared.handled.Handled.TheVariants.{Done, Ignored};
 ghost use Rattle.roc_server.specs.declared.planned.Change.TheVariants.{Nothing};
 ghost use Rattle.roc_server.specs.Inner.Planned.{after, IsPlannedFrom};
 ghost use Rattle.roc_server.specs.Inner.ServerData.{state_of, IsConsistent, IsSame};
-ghost use Rattle.roc_server.specs.Lists.{after_fetch};
+ghost use Rattle.roc_step.specs.Lists.{after_fetch};
 ghost use Rattle.roc_server.specs.Inner.Shown.{ShowsStep};
 
 use crate::Handled;

@@ -8,11 +8,11 @@ ghost use Rattle.roc_group.specs.GroupRun.{group_uses};
 ghost use Rattle.roc_rows.specs.Store.{Store};
 ghost use Rattle.roc_sequence.specs.Places.{is_listed};
 ghost use Rattle.roc_server_index.specs.GroupRefs.{group_refs_at};
-ghost use Rattle.roc_server.specs.Fits.{AreReadsOf, IsReadOf};
+ghost use Rattle.roc_step.specs.Fits.{AreReadsOf, IsReadOf};
 ghost use Rattle.roc_server.specs.Inner.Answering.{decided_then, entered, is_free_then, is_held_up, newly, started_with, writes_one};
 ghost use Rattle.roc_server.specs.Inner.Indexed.{holds_at};
 ghost use Rattle.roc_server.specs.Inner.Planned.{IsPlanned};
-ghost use Rattle.roc_server.specs.Reads.{read_call};
+ghost use Rattle.roc_step.specs.Reads.{read_call};
 
 use crate::groups::find_group;
 use crate::planned::Change;

@@ -4,9 +4,9 @@ ghost use Rattle.std.specs.Option.{option_and_then, option_copied, option_map_or
 ghost use Rattle.std.specs.List.{list_any};
 ghost use Rattle.roc_base.specs.TxnId.{is_txn};
 ghost use Rattle.roc_base.specs.Equality.{is_nums};
-ghost use Rattle.roc_server.specs.Runs.{count_of_groups};
-ghost use Rattle.roc_server.specs.Fits.{AreGroupsOf};
-ghost use Rattle.roc_server.specs.State.{is_group, find_group, is_here};
+ghost use Rattle.roc_step.specs.Runs.{count_of_groups};
+ghost use Rattle.roc_step.specs.Fits.{AreGroupsOf};
+ghost use Rattle.roc_step.specs.State.{is_group, find_group, is_here};
 
 use crate::StartedGroup;
 use crate::started_groups::StartedGroups;

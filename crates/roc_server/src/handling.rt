@@ -3,13 +3,13 @@ ghost use Rattle.std.specs.Prelude.{◌≡◌, true, false, None, IsOk, IsSome, 
 ghost use Rattle.roc_base.specs.declared.node.Shard.{Shard as At};
 ghost use Rattle.roc_msg.specs.Outbox.{HasRoomFor, HoldsAlso, HoldsSame};
 ghost use Rattle.roc_server.specs.Ahead.{needs_room, HasRoom, IsMadeFor, ServingFits};
-ghost use Rattle.roc_server.specs.Fits.{AreGroupsOf, AreReadsOf};
+ghost use Rattle.roc_step.specs.Fits.{AreGroupsOf, AreReadsOf};
 ghost use Rattle.roc_server.specs.Inner.AtOnce.{at_once};
 ghost use Rattle.roc_server.specs.Inner.Held.{kept_before, made_of, serving, viewing_of, viewing_then, CanCount, HasRoomToCount, IsHeld, IsServed};
 ghost use Rattle.roc_server.specs.Inner.Planned.{after, before, IsPlanned, IsPlannedFrom};
 ghost use Rattle.roc_server.specs.Inner.ServerData.{state_of, IsConsistent, IsSame};
-ghost use Rattle.roc_server.specs.State.{ServerState, ServerStep};
-ghost use Rattle.roc_server.specs.Step.{Handles};
+ghost use Rattle.roc_step.specs.State.{ServerState, ServerStep};
+ghost use Rattle.roc_step.specs.Step.{Handles};
 
 use crate::Handled;
 use crate::ahead::{Ahead, Outcome};

@@ -5,7 +5,7 @@ ghost use Rattle.std.specs.Option.{option_copied, option_map_or};
 ghost use Rattle.roc_rows.specs.declared.cell.Cell.{Cell};
 ghost use Rattle.roc_rows.specs.Cells.{is_cell};
 ghost use Rattle.roc_server_index.specs.GroupRefs.{group_refs_at, is_same_ref, HaveSameRefs, KeepsRoom};
-ghost use Rattle.roc_server.specs.Start.{uses_cell};
+ghost use Rattle.roc_step.specs.Start.{uses_cell};
 ghost use Rattle.roc_server.specs.Inner.Indexed.{group_ref_of, HasRoomFor, IsAddedAt, IsOutOf, IsOut, AreGroupRefsOf, AreOut};
 
 use crate::StartedGroup;

@@ -1,6 +1,6 @@
 //! New lists are learnt: as they are, and what is followed of them.
 ghost use Rattle.std.specs.Prelude.{◌≡◌, IfOk, OnErr};
-ghost use Rattle.roc_await.specs.Learning.{AreLearnable};
+ghost use Rattle.roc_step.specs.Learning.{AreLearnable};
 ghost use Rattle.roc_server.specs.Inner.ServerData.{IsConsistent, IsSame};
 ghost use Rattle.roc_server.specs.Inner.Taught.{AreLearnt, FollowsNews, Learns};
 

@@ -1,7 +1,7 @@
 //! Started groups that are reached by counted steps alone.
 ghost use Rattle.std.specs.Prelude.{◌≡◌, ◌+◌, Some, IsSome};
 ghost use Rattle.roc_server_index.specs.GroupRefs.{group_refs_at};
-ghost use Rattle.roc_server.specs.State.{find_group};
+ghost use Rattle.roc_step.specs.State.{find_group};
 
 use crate::StartedGroup;
 use crate::groups::find_group;

@@ -2,12 +2,12 @@
 ghost use Rattle.std.specs.Prelude.{◌≡◌, ◌+◌, ◌≤◌, ◌++◌, length, map, filter, Some, IsSome, if◌then◌else◌, IfOk, OnOk};
 ghost use Rattle.std.specs.List.{AllByRecursion};
 ghost use Rattle.roc_base.specs.Edges.{united};
-ghost use Rattle.roc_server.specs.Fits.{AreGroupsOf};
+ghost use Rattle.roc_step.specs.Fits.{AreGroupsOf};
 ghost use Rattle.roc_sequence.specs.Places.{NoneTwice};
 ghost use Rattle.roc_server.specs.Inner.ServerData.{is_same_group};
-ghost use Rattle.roc_server.specs.State.{find_group};
+ghost use Rattle.roc_step.specs.State.{find_group};
 ghost use Rattle.roc_server.specs.Inner.Indexed.{IsIndexOf, IsGroupRefWithin, is_looked_at, is_met, edge_from};
-ghost use Rattle.roc_server.specs.Start.{conflicts_before, edge_to, users};
+ghost use Rattle.roc_step.specs.Start.{conflicts_before, edge_to, users};
 
 use crate::lent_groups::LentGroups;
 use crate::started_now::is_immediate;

@@ -1,6 +1,6 @@
 //! The watermarks of coordinators.
 ghost use Rattle.std.specs.Prelude.{◌≡◌};
-ghost use Rattle.roc_server.specs.Below.{none_below, is_ended, mark_of, raised};
+ghost use Rattle.roc_step.specs.Below.{none_below, is_ended, mark_of, raised};
 
 use roc_base::TxnId;
 use std::marker::Model;

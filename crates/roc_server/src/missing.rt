@@ -1,12 +1,12 @@
 //! What new lists name: whose entries are done, and whose lists are missing.
 ghost use Rattle.std.specs.Prelude.{◌≡◌, not, ◌&&◌, map, filter, IfOk};
 ghost use Rattle.std.specs.List.Sorted.{IsStrictlySortedBy};
-ghost use Rattle.roc_await.specs.Waits.{was_asked_for};
+ghost use Rattle.roc_step.specs.Waits.{was_asked_for};
 ghost use Rattle.roc_base.specs.TxnId.{is_txn, txn_cmp};
 ghost use Rattle.roc_sequence.specs.Places.{is_listed};
 ghost use Rattle.roc_server.specs.Inner.Taught.{asked_by};
-ghost use Rattle.roc_server.specs.Lists.{is_done, is_missing};
-ghost use Rattle.roc_server.specs.State.{ServerState};
+ghost use Rattle.roc_step.specs.Lists.{is_done, is_missing};
+ghost use Rattle.roc_step.specs.State.{ServerState};
 
 use crate::groups::is_here;
 use crate::marks::Marks;

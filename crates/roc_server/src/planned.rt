@@ -2,13 +2,12 @@
 ghost use Rattle.std.specs.Prelude.{◌≡◌};
 ghost use Rattle.roc_server.specs.declared.planned.Change.TheVariants.{Nothing};
 
-use crate::Handled;
 use crate::found::Found;
 use crate::left::Left;
 use crate::marks::Marks;
 use crate::runs::Earlier;
 use crate::settled::Settling;
-use crate::started::StartedGroup;
+use crate::{Handled, StartedGroup};
 use roc_await::Asker;
 use roc_depgraph::KnownList;
 

@@ -1,11 +1,11 @@
 //! What comes of a message is planned.
 ghost use Rattle.std.specs.Prelude.{◌≡◌, true, IfOk, OnErr};
 ghost use Rattle.roc_server.specs.Ahead.{needs_room};
-ghost use Rattle.roc_server.specs.Fits.{AreGroupsOf};
+ghost use Rattle.roc_step.specs.Fits.{AreGroupsOf};
 ghost use Rattle.roc_server.specs.Inner.Planned.{after, IsPlannedFrom};
 ghost use Rattle.roc_server.specs.Inner.ServerData.{state_of, IsConsistent, IsSame};
-ghost use Rattle.roc_server.specs.State.{ServerStep};
-ghost use Rattle.roc_server.specs.Step.{Handles};
+ghost use Rattle.roc_step.specs.State.{ServerStep};
+ghost use Rattle.roc_step.specs.Step.{Handles};
 ghost use Rattle.roc_server.specs.Inner.Shown.{ShowsStep};
 
 use crate::Handled;

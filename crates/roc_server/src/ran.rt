@@ -2,9 +2,9 @@
 ghost use Rattle.std.specs.Prelude.{◌≡◌, ◌<◌, ◌∷◌, [], length, OnOk};
 ghost use Rattle.roc_msg.specs.Outbox.{HasRun};
 ghost use Rattle.roc_plan.specs.Groups.{groups_of};
-ghost use Rattle.roc_server.specs.Fits.{AreGroupsOf};
+ghost use Rattle.roc_step.specs.Fits.{AreGroupsOf};
 ghost use Rattle.roc_server.specs.Inner.Runs.{buffered};
-ghost use Rattle.roc_server.specs.Runs.{accesses_of, all_buffered, buffered_here};
+ghost use Rattle.roc_step.specs.Runs.{accesses_of, all_buffered, buffered_here};
 
 use crate::StartedGroup;
 use crate::groups::{count_of_groups, find_group};

@@ -2,12 +2,12 @@
 ghost use Rattle.std.specs.Prelude.{◌≡◌, ◌++◌, ◌∷◌, [], List, not, filter, map, IsTrue, IfOk, OnOk};
 ghost use Rattle.std.specs.List.{list_any};
 ghost use Rattle.roc_msg.specs.Outbox.{HasSent};
-ghost use Rattle.roc_server.specs.Fits.{AreReadsOf};
+ghost use Rattle.roc_step.specs.Fits.{AreReadsOf};
 ghost use Rattle.roc_server.specs.Inner.Answering.{is_free_then, readok_over, with_some_read, PlansReads, TakenFits};
 ghost use Rattle.roc_server.specs.Inner.Held.{reads_then, viewing_of, HasRoomToCount};
 ghost use Rattle.roc_server.specs.Inner.Planned.{IsPlanned};
-ghost use Rattle.roc_server.specs.Reads.{in_turn, is_same_read, reads_with, with_accesses, with_read};
-ghost use Rattle.roc_server.specs.declared.kept_read.KeptRead.{KeptRead as Waiting};
+ghost use Rattle.roc_step.specs.Reads.{in_turn, is_same_read, reads_with, with_accesses, with_read};
+ghost use Rattle.roc_step.specs.declared.kept_read.KeptRead.{KeptRead as Waiting};
 
 use crate::free_reads::{Parted, part};
 use crate::planned::{Change, Planned};

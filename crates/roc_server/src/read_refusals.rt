@@ -1,10 +1,10 @@
 //! Why a read is not taken.
 ghost use Rattle.std.specs.Prelude.{◌≡◌, ◌<◌, ℕ, [], length, IsTrue, IfOk, unwrap_or};
 ghost use Rattle.roc_plan.specs.Groups.{is_view_of};
-ghost use Rattle.roc_server.specs.declared.handled.Handled.TheVariants.{Done};
+ghost use Rattle.roc_step.specs.declared.handled.Handled.TheVariants.{Done};
 ghost use Rattle.roc_server.specs.declared.planned.Change.TheVariants.{Nothing};
 ghost use Rattle.roc_server.specs.Inner.ServerData.{state_of};
-ghost use Rattle.roc_server.specs.Reads.{read_refusal};
+ghost use Rattle.roc_step.specs.Reads.{read_refusal};
 
 use crate::Handled;
 use crate::free_reads::given_to;

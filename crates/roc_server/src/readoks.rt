@@ -6,9 +6,9 @@ ghost use Rattle.roc_msg.specs.Outbox.{HasSent};
 ghost use Rattle.roc_rows.specs.Cells.{is_cell};
 ghost use Rattle.roc_rows.specs.Store.{read};
 ghost use Rattle.roc_rows.specs.Versions.{version};
-ghost use Rattle.roc_server.specs.Fits.{AreReadsOf, IsReadOf};
+ghost use Rattle.roc_step.specs.Fits.{AreReadsOf, IsReadOf};
 ghost use Rattle.roc_server.specs.Inner.Answering.{readok_over};
-ghost use Rattle.roc_server.specs.Reads.{read_call, with_accesses};
+ghost use Rattle.roc_step.specs.Reads.{read_call, with_accesses};
 
 use crate::KeptRead;
 use crate::free_reads::{cells_of, given_to};

@@ -2,7 +2,7 @@
 ghost use Rattle.std.specs.Prelude.{◌≡◌};
 ghost use Rattle.roc_base.specs.declared.node.Shard.{Shard as At};
 ghost use Rattle.roc_server.specs.Inner.ServerData.{state_of, IsConsistent};
-ghost use Rattle.roc_server.specs.Renewed.{renewed};
+ghost use Rattle.roc_step.specs.Renewed.{renewed};
 
 use crate::server_data::ServerData;
 use crate::started_groups::StartedGroups;

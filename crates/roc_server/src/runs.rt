@@ -3,12 +3,12 @@ ghost use Rattle.std.specs.Prelude.{◌≡◌, ◌<◌, ◌++◌, [], length, un
 ghost use Rattle.std.specs.Option.{option_to_list};
 ghost use Rattle.roc_sequence.specs.Places.{NoneTwice};
 ghost use Rattle.roc_group.specs.GroupRun.{call, group_run};
-ghost use Rattle.roc_server.specs.Runs.{buffered_here, group_call, outs_here, run_groups, take_all};
-ghost use Rattle.roc_server.specs.declared.started.StartedGroup.{StartedGroup as Group};
-ghost use Rattle.roc_server.specs.Fits.{AreGroupsOf, IsCallOf};
+ghost use Rattle.roc_step.specs.Runs.{buffered_here, group_call, outs_here, run_groups, take_all};
+ghost use Rattle.roc_step.specs.declared.started.StartedGroup.{StartedGroup as Group};
+ghost use Rattle.roc_step.specs.Fits.{AreGroupsOf, IsCallOf};
 ghost use Rattle.roc_server.specs.Inner.ServerData.{holding, is_same_group, AreSameGroups};
 ghost use Rattle.roc_server.specs.Inner.Runs.{buffered, restored, with_later_at, RunsAt, RunsIfBuffered};
-ghost use Rattle.roc_server.specs.State.{find_group, ServerState};
+ghost use Rattle.roc_step.specs.State.{find_group, ServerState};
 
 use crate::StartedGroup;
 use crate::groups::{count_of_groups, find_group, place_of_group};

@@ -3,26 +3,25 @@ ghost use Rattle.std.specs.Prelude.{◌≡◌, ◌↔◌, ◌+◌, ◌≤◌, Li
 ghost use Rattle.roc_base.specs.declared.id.TxnId.{TxnId as Id};
 ghost use Rattle.roc_depgraph.specs.Deps.{IsDecided};
 ghost use Rattle.roc_msg.specs.Outbox.{HasSent, HoldsSame};
-ghost use Rattle.roc_server_lists.specs.Asking.{fetch_from};
-ghost use Rattle.roc_server_lists.specs.New.{AreDecided};
+ghost use Rattle.roc_step.specs.Asking.{fetch_from};
+ghost use Rattle.roc_step.specs.New.{AreDecided};
 ghost use Rattle.roc_plan.specs.Groups.{Plan as AnyPlan};
 ghost use Rattle.roc_rows.specs.Store.{entries};
 ghost use Rattle.roc_server.specs.Ahead.{HasRoom, ServingFits};
-ghost use Rattle.roc_server.specs.Below.{is_ended};
-ghost use Rattle.roc_server.specs.First.{first_server};
-ghost use Rattle.roc_server.specs.Fits.{ServerFits};
+ghost use Rattle.roc_step.specs.Below.{is_ended};
+ghost use Rattle.roc_step.specs.First.{first_server};
+ghost use Rattle.roc_step.specs.Fits.{ServerFits};
 ghost use Rattle.roc_server.specs.Inner.Held.{kept_before};
 ghost use Rattle.roc_server.specs.Inner.Planned.{before};
-ghost use Rattle.roc_server.specs.Reads.{first_viewing, AnswersReads, ReadStep};
-ghost use Rattle.roc_server.specs.Renewed.{renewed, renewed_viewing};
-ghost use Rattle.roc_server.specs.Restarts.{without_reads};
-ghost use Rattle.roc_server.specs.Start.{is_immediate, entries_for, users};
-ghost use Rattle.roc_server.specs.State.{ServerStep};
-ghost use Rattle.roc_server.specs.Step.{Handles, Shows, tick_sends};
-ghost use Rattle.roc_server.specs.Waiting.{waiting_groups};
+ghost use Rattle.roc_step.specs.Reads.{first_viewing, AnswersReads, ReadStep};
+ghost use Rattle.roc_step.specs.Renewed.{renewed, renewed_viewing};
+ghost use Rattle.roc_step.specs.Restarts.{without_reads};
+ghost use Rattle.roc_step.specs.Start.{is_immediate, entries_for, users};
+ghost use Rattle.roc_step.specs.State.{ServerStep};
+ghost use Rattle.roc_step.specs.Step.{Handles, Shows, tick_sends};
+ghost use Rattle.roc_step.specs.Waiting.{waiting_groups};
 ghost use Rattle.roc_server.specs.declared.server_data.ServerData.{ServerData};
 
-use crate::Handled;
 use crate::ahead::Ahead;
 use crate::first::first_rows;
 use crate::handling::{handle, let_go, ready};
@@ -32,7 +31,8 @@ use crate::planned::Change;
 use crate::renewing::renew;
 use crate::server_data::ServerData;
 use crate::views::{Views, drop_reads};
-use crate::waiting::{Waiting, all_waiting};
+use crate::waiting::all_waiting;
+use crate::{Handled, Waiting};
 use roc_await::OpenFetch;
 use roc_base::{Edges, NoMemory, Shard, Steps, TxnId};
 use roc_group::Access;
@@ -58,7 +58,7 @@ pub struct Server {
 
 impl Model for Server {
     ghost use Rattle.std.specs.Coded.{codes};
-    ghost use Rattle.roc_server.specs.Codes.{coded_state, coded_viewing};
+    ghost use Rattle.roc_step.specs.Codes.{coded_state, coded_viewing};
     ghost use Rattle.roc_server.specs.State.{Serving};
 
     ghost Value = { Serving };

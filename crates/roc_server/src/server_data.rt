@@ -30,8 +30,8 @@ pub(crate) struct ServerData {
 
 impl ServerData {
     ghost use Rattle.std.specs.Prelude.{◌≡◌, []};
-    ghost use Rattle.roc_await.specs.Waits.{none_waiting};
-    ghost use Rattle.roc_server.specs.Below.{none_below};
+    ghost use Rattle.roc_step.specs.Waits.{none_waiting};
+    ghost use Rattle.roc_step.specs.Below.{none_below};
     ghost use Rattle.roc_server.specs.Inner.ServerData.{IsConsistent};
 
     // Cells, and nothing else.

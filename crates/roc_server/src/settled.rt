@@ -2,19 +2,19 @@
 ghost use Rattle.std.specs.Prelude.{◌≡◌, ◌&&◌, ℕ, [], true, false, not, filter, IfOk, IfSome, OnOk, OnErr};
 ghost use Rattle.std.specs.List.Sorted.{IsStrictlySortedBy};
 ghost use Rattle.roc_await.specs.Lacks.{AreLacks};
-ghost use Rattle.roc_await.specs.Learning.{AreLearnable};
+ghost use Rattle.roc_step.specs.Learning.{AreLearnable};
 ghost use Rattle.roc_base.specs.TxnId.{is_txn, txn_cmp};
 ghost use Rattle.roc_base.specs.declared.id.TxnId.{TxnId as Id};
 ghost use Rattle.roc_msg.specs.Outbox.{HoldsSame};
 ghost use Rattle.roc_sequence.specs.Places.{IsListed, NoneTwice, is_listed};
-ghost use Rattle.roc_server.specs.Below.{is_ended};
-ghost use Rattle.roc_server.specs.Fits.{AreGroupsOf};
+ghost use Rattle.roc_step.specs.Below.{is_ended};
+ghost use Rattle.roc_step.specs.Fits.{AreGroupsOf};
 ghost use Rattle.roc_server.specs.Inner.Planned.{after, IsPlannedFrom, IsSettledFrom};
 ghost use Rattle.roc_server.specs.Inner.Runs.{restored};
 ghost use Rattle.roc_server.specs.Inner.ServerData.{is_same_group, IsConsistent, IsRight, IsSame};
 ghost use Rattle.roc_server.specs.Inner.Settled.{links_settled, AreSettled, AreUnknown, HasNewlyDecided, HasRoomToSettle, IsDeciding, IsHearing, IsLess, IsSettling, Settles, SettlesRuns};
 ghost use Rattle.roc_server.specs.Inner.Taught.{KeepsBesideRuns};
-ghost use Rattle.roc_server.specs.declared.handled.Handled.TheVariants.{Done};
+ghost use Rattle.roc_step.specs.declared.handled.Handled.TheVariants.{Done};
 ghost use Rattle.roc_server.specs.declared.planned.Change.TheVariants.{Settled};
 
 use crate::Handled;

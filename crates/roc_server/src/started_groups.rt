@@ -4,9 +4,9 @@ ghost use Rattle.indexmap.specs.IndexMap.{keys, values, index_map_len, spare};
 ghost use Rattle.std.specs.List.Sorted.{IsStrictlySortedBy};
 ghost use Rattle.roc_base.specs.TxnId.{is_txn, txn_cmp};
 ghost use Rattle.roc_sequence.specs.Places.{is_listed};
-ghost use Rattle.roc_server.specs.declared.started.StartedGroup.{StartedGroup as Group};
+ghost use Rattle.roc_step.specs.declared.started.StartedGroup.{StartedGroup as Group};
 ghost use Rattle.roc_server.specs.Inner.Keyed.{AreBelow, AreKeyed, IsOnceHere, key_of, lesser};
-ghost use Rattle.roc_server.specs.State.{find_group, is_group};
+ghost use Rattle.roc_step.specs.State.{find_group, is_group};
 
 use crate::StartedGroup;
 use crate::group_key::GroupKey;

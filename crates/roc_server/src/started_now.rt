@@ -5,11 +5,11 @@ ghost use Rattle.roc_group.specs.GroupRun.{call, group_run, group_uses, bound_by
 ghost use Rattle.roc_plan.specs.Groups.{groups_of, is_immediate_of, procedure_of, inputs_of};
 ghost use Rattle.roc_sequence.specs.Places.{NoneTwice};
 ghost use Rattle.roc_server_ancestors.specs.Least.{AreRows};
-ghost use Rattle.roc_server.specs.Fits.{IsCallOf, AreGroupsOf};
+ghost use Rattle.roc_step.specs.Fits.{IsCallOf, AreGroupsOf};
 ghost use Rattle.roc_server.specs.Inner.Indexed.{IsIndexOf};
 ghost use Rattle.roc_server.specs.Inner.ServerData.{asked, is_same_group};
 ghost use Rattle.roc_server.specs.Inner.Starts.{IsNewGroup, KeepsBeside};
-ghost use Rattle.roc_server.specs.Start.{conflicts_before, edge_to};
+ghost use Rattle.roc_step.specs.Start.{conflicts_before, edge_to};
 
 use crate::StartedGroup;
 use crate::lent_groups::LentGroups;

@@ -1,7 +1,7 @@
 //! The components that were taken, and are not forgotten.
 ghost use Rattle.std.specs.Prelude.{◌≡◌, ◌≤◌, ◌-◌, ◌++◌, [], length, not, filter, vec_len, vec_capacity, IfOk, OnOk};
 ghost use Rattle.std.specs.List.{flat_map};
-ghost use Rattle.roc_server.specs.Forgets.{is_over, over};
+ghost use Rattle.roc_step.specs.Forgets.{is_over, over};
 
 use crate::marks::Marks;
 use roc_base::{NoMemory, TxnId};

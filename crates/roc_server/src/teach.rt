@@ -2,13 +2,13 @@
 ghost use Rattle.std.specs.Prelude.{◌≡◌, ◌++◌, IfOk, OnOk, OnErr};
 ghost use Rattle.std.specs.List.Sorted.{IsStrictlySortedBy};
 ghost use Rattle.roc_base.specs.TxnId.{txn_cmp};
-ghost use Rattle.roc_await.specs.Learning.{AreLearnable};
+ghost use Rattle.roc_step.specs.Learning.{AreLearnable};
 ghost use Rattle.roc_msg.specs.Outbox.{HasSent};
 ghost use Rattle.roc_sequence.specs.Places.{NoneTwice};
-ghost use Rattle.roc_server.specs.Fits.{AreGroupsOf};
+ghost use Rattle.roc_step.specs.Fits.{AreGroupsOf};
 ghost use Rattle.roc_server.specs.Inner.Left.{IsOver};
 ghost use Rattle.roc_server.specs.Inner.Runs.{restored};
-ghost use Rattle.roc_server.specs.declared.handled.Handled.TheVariants.{Done};
+ghost use Rattle.roc_step.specs.declared.handled.Handled.TheVariants.{Done};
 ghost use Rattle.roc_server.specs.declared.planned.Change.TheVariants.{Lists};
 ghost use Rattle.roc_server.specs.Inner.Planned.{after, IsPlannedFrom};
 ghost use Rattle.roc_server.specs.Inner.ServerData.{is_same_group, IsConsistent, IsSame};

@@ -1,8 +1,8 @@
 //! What a server keeps for views.
 ghost use Rattle.std.specs.Prelude.{◌≡◌, ◌≤◌, ◌+◌, ◌∷◌, [], length, filter, OnOk};
 ghost use Rattle.roc_server.specs.Inner.Held.{reads_then, viewing_of, viewing_then, HasRoomToCount};
-ghost use Rattle.roc_server.specs.Reads.{is_taken, with_access, with_accesses};
-ghost use Rattle.roc_server.specs.Restarts.{without_reads};
+ghost use Rattle.roc_step.specs.Reads.{is_taken, with_access, with_accesses};
+ghost use Rattle.roc_step.specs.Restarts.{without_reads};
 
 use crate::{Handled, KeptRead};
 use roc_base::NoMemory;
@@ -20,7 +20,7 @@ pub(crate) struct Views {
 impl Views {
     ghost use Rattle.std.specs.Prelude.{◌≡◌};
     ghost use Rattle.roc_server.specs.Inner.Held.{viewing_of};
-    ghost use Rattle.roc_server.specs.Reads.{first_viewing};
+    ghost use Rattle.roc_step.specs.Reads.{first_viewing};
 
     // Before any write and any read.
     pub(crate) fn new(alloc: Global) -> Views

@@ -1,25 +1,18 @@
 //! What waits on a server.
 ghost use Rattle.std.specs.Prelude.{◌≡◌, ◌++◌, ◌∷◌, [], ◌<◌, length, map, filter, IfOk, OnOk};
 ghost use Rattle.roc_plan.specs.Groups.{groups_of};
-ghost use Rattle.roc_server.specs.Fits.{AreGroupsOf};
-ghost use Rattle.roc_server.specs.Waiting.{is_waiting, waiting_of};
+ghost use Rattle.roc_step.specs.Fits.{AreGroupsOf};
+ghost use Rattle.roc_step.specs.Waiting.{is_waiting, waiting_of};
 
 use crate::StartedGroup;
 use crate::server_data::ServerData;
 use crate::started_now::is_immediate;
-use roc_base::{NoMemory, TxnId};
-use roc_group::Access;
+use roc_base::NoMemory;
 use roc_plan::Plan;
 use roc_sequence::Sequence;
 use roc_server_lists::Decided;
+use roc_step::Waiting;
 use std::alloc::Global;
-
-/// A buffered group of a transaction that is not decided, with the cells that it uses.
-#[derive(Drop)]
-pub struct Waiting {
-    pub id: TxnId,
-    pub cells: Sequence<Access>,
-}
 
 // The groups that wait, in order of arrival.
 pub(crate) fn all_waiting(

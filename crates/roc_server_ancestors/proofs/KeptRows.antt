@@ -17,7 +17,7 @@ use Rattle.roc_depgraph.proofs.Laws.{KeepsLists, ancestor_stays, ancestor_back, 
 use Rattle.roc_depgraph.proofs.Listed.{listed_has, has_listed, listed_one, in_one}
 use Rattle.roc_component.specs.Components.{among, AreTaken, Mates}
 use Rattle.roc_component.proofs.Relations.{mates_sym, mates_reach, mates_weaker, reach_trans}
-use Rattle.roc_server_ancestors.specs.Led.{IsLedTo, IsKnownAndLedTo}
+use Rattle.roc_step.specs.Led.{IsLedTo, IsKnownAndLedTo}
 use Rattle.roc_server_ancestors.specs.Least.{most_least, AreDecidedMates, AreLeast, IsRow, AreRows, row_of}
 use Rattle.roc_server_ancestors.specs.Inner.Met.{CoversLeast}
 use Rattle.roc_server_ancestors.proofs.Fronts.{before_more, least_met}

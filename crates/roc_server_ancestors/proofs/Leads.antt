@@ -22,7 +22,7 @@ use Rattle.roc_depgraph.proofs.Decided.{known_of_decided}
 use Rattle.roc_depgraph.proofs.Listed.{listed_one, in_one}
 use Rattle.roc_depgraph.proofs.Walk.{named_ids, named_from, listed_named}
 use Rattle.roc_component.proofs.Front.{length-le_from_listed}
-use Rattle.roc_server_ancestors.specs.Led.{IsLedTo, IsKnownAndLedTo}
+use Rattle.roc_step.specs.Led.{IsLedTo, IsKnownAndLedTo}
 use Rattle.roc_server_ancestors.specs.Least.{most_least, IsRow, AreRows, row_of}
 use Rattle.roc_server_ancestors.specs.Inner.Met.{HasBefore, CoversLeast}
 use Rattle.roc_server_ancestors.proofs.Fronts.{before_more, listed_taken, near_front}

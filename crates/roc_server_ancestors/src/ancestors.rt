@@ -8,7 +8,7 @@ ghost use Rattle.roc_depgraph.specs.declared.known.KnownList.{KnownList as Known
 ghost use Rattle.roc_depgraph.specs.Deps.{IsDecided, Precedes};
 ghost use Rattle.roc_depgraph.specs.Reach.{ReachesOrIs};
 ghost use Rattle.roc_sequence.specs.Places.{IsListed};
-ghost use Rattle.roc_server_ancestors.specs.Led.{IsKnownAndLedTo};
+ghost use Rattle.roc_step.specs.Led.{IsKnownAndLedTo};
 ghost use Rattle.roc_server_ancestors.specs.Least.{AreAllRight, AreDecidedMates, AreLeast, AreNextRows, AreRows, AreSameRows, ids_of, IsRow, KeepsRows};
 ghost use Rattle.roc_server_ancestors.specs.Inner.Met.{KeepAllRows, Moves};
 

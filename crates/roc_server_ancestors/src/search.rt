@@ -5,7 +5,7 @@ ghost use Rattle.roc_base.specs.declared.id.TxnId.{TxnId as Id};
 ghost use Rattle.roc_base.specs.Edge.{Dependency};
 ghost use Rattle.roc_depgraph.specs.Deps.{list_of};
 ghost use Rattle.roc_depgraph.specs.Finds.{Finds};
-ghost use Rattle.roc_server_ancestors.specs.Led.{IsKnownAndLedTo};
+ghost use Rattle.roc_step.specs.Led.{IsKnownAndLedTo};
 ghost use Rattle.roc_server_ancestors.specs.Least.{AreRows, row_of};
 ghost use Rattle.roc_server_ancestors.specs.Inner.Met.{CoversLeast};
 

@@ -8,9 +8,9 @@ use Rattle.roc_base.specs.TxnId.{is_txn}
 use Rattle.roc_base.specs.Edge.{Dependency}
 use Rattle.roc_depgraph.specs.declared.known.KnownList.{KnownList}
 use Rattle.roc_depgraph.specs.Deps.{list_of, is_known, entries_of}
-use Rattle.roc_await.specs.Learning.{AreLearnable}
-use Rattle.roc_server_lists.specs.Links.{without_links, all_entries, IsLinkOf, AreLinksOf}
-use Rattle.roc_server_lists.proofs.SameIds.{ids_of, ids_without, known_alike, learnable_alike}
+use Rattle.roc_step.specs.Learning.{AreLearnable}
+use Rattle.roc_step.specs.Links.{without_links, all_entries, IsLinkOf, AreLinksOf}
+use Rattle.roc_step.proofs.SameIds.{ids_of, ids_without, known_alike, learnable_alike}
 
 not_ended : (ended p : TxnId → Bool) → ((u : TxnId) → p u ≡ true → ended u ≡ true) → (u : TxnId) → ended u ≡ false → p u ≡ false
 not_ended ended p done u n = go (p u) refl

@@ -11,8 +11,8 @@ use Rattle.roc_base.specs.Equalities.{is_txn-same}
 use Rattle.roc_base.specs.Edge.{Dependency}
 use Rattle.roc_depgraph.specs.Inner.Entries.{known_by}
 use Rattle.roc_depgraph.proofs.Listed.{listed_has}
-use Rattle.roc_server_lists.specs.Links.{all_entries}
-use Rattle.roc_server_lists.proofs.SameIds.{ids_of}
+use Rattle.roc_step.specs.Links.{all_entries}
+use Rattle.roc_step.proofs.SameIds.{ids_of}
 
 pub keys_are : (es : List (TxnId × List Dependency)) → keys_of es ≡ ids_of (known_by es)
 keys_are [] = refl

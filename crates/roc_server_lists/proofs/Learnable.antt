@@ -9,8 +9,8 @@ use Rattle.roc_base.proofs.Ids.{txn_lt-ne, txn_lt-trans}
 use Rattle.roc_depgraph.specs.declared.known.KnownList.{KnownList}
 use Rattle.roc_depgraph.specs.Deps.{list_of, is_known}
 use Rattle.roc_msg.specs.Facts.{is_fact_before, AreFacts}
-use Rattle.roc_await.specs.Learning.{AreLearnable}
-use Rattle.roc_server_lists.specs.Carried.{list_with, carried, unknown_of}
+use Rattle.roc_step.specs.Learning.{AreLearnable}
+use Rattle.roc_step.specs.Carried.{list_with, carried, unknown_of}
 
 -- ---- facts stay facts
 

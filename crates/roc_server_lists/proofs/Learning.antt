@@ -13,8 +13,8 @@ use Rattle.roc_depgraph.specs.Deps.{list_of, learnt, IsKnown}
 use Rattle.roc_depgraph.specs.Learnt.{Learns}
 use Rattle.roc_depgraph.proofs.Laws.{KeepsLists}
 use Rattle.roc_base.specs.TxnId.{is_txn}
-use Rattle.roc_await.specs.Learning.{AreLearnable}
-use Rattle.roc_server_lists.proofs.SameIds.{ids_more, learnable_alike}
+use Rattle.roc_step.specs.Learning.{AreLearnable}
+use Rattle.roc_step.proofs.SameIds.{ids_more, learnable_alike}
 
 -- a list of a transaction of which none was known is learnt
 pub learns_new : (id : TxnId) (edges : List Dependency) (old new : List KnownList) (answer : Learnt) → list_of id old ≡ None → Learns id edges old answer new → new ≡ learnt old id edges

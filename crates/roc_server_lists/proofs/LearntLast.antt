@@ -9,8 +9,8 @@ use Rattle.roc_base.specs.Equalities.{is_txn-same}
 use Rattle.roc_base.proofs.Ids.{is_txn-swap}
 use Rattle.roc_depgraph.specs.declared.known.KnownList.{KnownList}
 use Rattle.roc_depgraph.specs.Deps.{list_of, is_known, IsKnown}
-use Rattle.roc_await.specs.Learning.{AreLearnable}
-use Rattle.roc_server_lists.proofs.SameIds.{ids_of, same_at, as_many}
+use Rattle.roc_step.specs.Learning.{AreLearnable}
+use Rattle.roc_step.proofs.SameIds.{ids_of, same_at, as_many}
 
 -- where no list of t is known, none is taken out with it
 none_of : (t : TxnId) (ks : List KnownList) → list_of t ks ≡ None → filter (λ k. not (is_txn k.of t)) ks ≡ ks

@@ -10,7 +10,7 @@ use Rattle.roc_depgraph.proofs.Listed.{listed_has}
 use Rattle.roc_component.specs.Components.{among, AreTaken, Mates}
 use Rattle.roc_component.proofs.Relations.{mates_from, reach_trans}
 use Rattle.roc_server_ancestors.specs.Least.{IsRow, AreDecidedMates, AreRows, HasRow}
-use Rattle.roc_server_lists.proofs.ForgottenLinks.{left, precedes_left, left_precedes, decided_left}
+use Rattle.roc_step.proofs.ForgottenLinks.{left, precedes_left, left_precedes, decided_left}
 
 module _ (forgotten : TxnId → Bool) (links : List KnownList) where
   -- nothing forgotten leads to t, and t is not forgotten

@@ -17,10 +17,10 @@ use Rattle.roc_component.proofs.ListsWithin.{listed_at, new_at}
 use Rattle.roc_depgraph.specs.declared.known.KnownList.{KnownList}
 use Rattle.roc_depgraph.specs.Deps.{list_of, entries_of, IsKnown}
 use Rattle.roc_depgraph.proofs.Listed.{has_listed}
-use Rattle.roc_await.specs.Learning.{AreLearnable}
-use Rattle.roc_server_lists.specs.Carried.{list_with}
-use Rattle.roc_server_lists.specs.Links.{without_links}
-use Rattle.roc_server_lists.proofs.SameIds.{ids_of}
+use Rattle.roc_step.specs.Learning.{AreLearnable}
+use Rattle.roc_step.specs.Carried.{list_with}
+use Rattle.roc_step.specs.Links.{without_links}
+use Rattle.roc_step.proofs.SameIds.{ids_of}
 
 -- one whose id is not listed has no list
 none_unlisted : (ks : List KnownList) (t : TxnId) → ¬ IsListed is_txn (ids_of ks) t → list_of t ks ≡ None

@@ -9,7 +9,7 @@ use Rattle.roc_base.specs.TxnId.{txn_lt}
 use Rattle.roc_sequence.proofs.Fronts.{front_more}
 use Rattle.roc_depgraph.specs.declared.known.KnownList.{KnownList}
 use Rattle.roc_depgraph.specs.Deps.{is_known}
-use Rattle.roc_server_lists.specs.Carried.{unknown_of}
+use Rattle.roc_step.specs.Carried.{unknown_of}
 
 module _ (p : KnownList → Bool) (known facts : List KnownList) (i : ℕ) (k : KnownList) (within : i < length facts) (is : k ≡ get_or facts i k)
     (first mid next : List KnownList) (so_far : mid ≡ first ++ unknown_of known (filter p (take i facts))) where

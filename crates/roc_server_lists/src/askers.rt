@@ -3,7 +3,7 @@ ghost use Rattle.std.specs.Prelude.{◌≡◌, ◌≤◌, ◌++◌, not, map, fi
 ghost use Rattle.std.specs.List.{list_any, flat_map};
 ghost use Rattle.roc_base.specs.TxnId.{is_txn};
 ghost use Rattle.roc_msg.specs.Outbox.{HasSent};
-ghost use Rattle.roc_server_lists.specs.Asking.{known_to, knowns_for};
+ghost use Rattle.roc_step.specs.Asking.{known_to, knowns_for};
 
 use crate::fetches::send_known;
 use roc_await::{Asker, Waits};

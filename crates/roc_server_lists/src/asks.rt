@@ -2,8 +2,8 @@
 ghost use Rattle.std.specs.Prelude.{◌≡◌, ◌≤◌, length, IsOk, IfOk, OnOk};
 ghost use Rattle.std.specs.List.{flat_map};
 ghost use Rattle.roc_base.specs.Edges.{united};
-ghost use Rattle.roc_await.specs.Waits.{with_all_asked};
-ghost use Rattle.roc_server_lists.specs.Asking.{open_after, waiting_after};
+ghost use Rattle.roc_step.specs.Waits.{with_all_asked};
+ghost use Rattle.roc_step.specs.Asking.{open_after, waiting_after};
 
 use crate::askers::drop_all;
 use roc_await::{OpenFetch, Waits};

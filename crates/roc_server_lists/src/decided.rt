@@ -6,7 +6,7 @@ ghost use Rattle.roc_base.specs.TxnId.{is_txn, txn_cmp};
 ghost use Rattle.roc_base.specs.declared.id.TxnId.{TxnId as Id};
 ghost use Rattle.roc_depgraph.specs.Closure.{IsRisingListOf};
 ghost use Rattle.roc_sequence.specs.Places.{IsListed, is_listed};
-ghost use Rattle.roc_server_lists.specs.New.{AreAllNew, AreNewTaken};
+ghost use Rattle.roc_step.specs.New.{AreAllNew, AreNewTaken};
 
 use roc_base::{NoMemory, TxnId};
 use roc_component::taken_components;

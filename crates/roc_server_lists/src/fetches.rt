@@ -1,8 +1,8 @@
 //! Fetches, and what answers them.
 ghost use Rattle.std.specs.Prelude.{◌≡◌, ◌++◌, ◌∷◌, [], map, OnOk, OnErr};
 ghost use Rattle.roc_msg.specs.Outbox.{HasSent, HoldsSame};
-ghost use Rattle.roc_server_lists.specs.Asking.{known_to, fetch_from};
-ghost use Rattle.roc_server_lists.specs.Carried.{list_with};
+ghost use Rattle.roc_step.specs.Asking.{known_to, fetch_from};
+ghost use Rattle.roc_step.specs.Carried.{list_with};
 
 use roc_await::OpenFetch;
 use roc_base::{Edges, NoMemory, Node, Shard, TxnId};

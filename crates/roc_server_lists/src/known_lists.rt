@@ -5,7 +5,7 @@ ghost use Rattle.std.specs.List.Sorted.{IsStrictlySortedBy};
 ghost use Rattle.roc_base.specs.TxnId.{is_txn, txn_cmp};
 ghost use Rattle.roc_depgraph.specs.Deps.{list_of, learnt, IsKnown};
 ghost use Rattle.roc_sequence.specs.Places.{is_listed, NoneTwice};
-ghost use Rattle.roc_server_lists.specs.Links.{all_entries, least_naming};
+ghost use Rattle.roc_step.specs.Links.{all_entries, least_naming};
 
 use indexmap::IndexMap;
 use roc_base::{Edges, NoMemory, TxnId};

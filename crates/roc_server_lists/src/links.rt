@@ -2,13 +2,13 @@
 ghost use Rattle.std.specs.Prelude.{◌≡◌, ◌++◌, ◌∷◌, [], not, map, filter, None, IfOk, OnOk, OnErr};
 ghost use Rattle.std.specs.List.{list_any};
 ghost use Rattle.std.specs.List.Sorted.{IsStrictlySortedBy};
-ghost use Rattle.roc_await.specs.Learning.{AreLearnable};
+ghost use Rattle.roc_step.specs.Learning.{AreLearnable};
 ghost use Rattle.roc_base.specs.TxnId.{is_txn, txn_cmp};
 ghost use Rattle.roc_depgraph.specs.Deps.{list_of, entries_of, IsKnown};
 ghost use Rattle.roc_sequence.specs.Places.{is_listed};
-ghost use Rattle.roc_server_lists.specs.Carried.{list_with};
-ghost use Rattle.roc_server_lists.specs.Links.{without_links};
-ghost use Rattle.roc_server_lists.specs.New.{AreLinkedLast};
+ghost use Rattle.roc_step.specs.Carried.{list_with};
+ghost use Rattle.roc_step.specs.Links.{without_links};
+ghost use Rattle.roc_step.specs.New.{AreLinkedLast};
 
 use crate::known_lists::KnownLists;
 use roc_base::{Edge, Edges, NoMemory, TxnId};

@@ -1,9 +1,9 @@
 //! Lists that a message teaches.
 ghost use Rattle.std.specs.Prelude.{◌≡◌, ◌++◌, ◌∷◌, [], map, filter, IfOk, OnOk, OnErr};
-ghost use Rattle.roc_await.specs.Learning.{AreLearnable};
+ghost use Rattle.roc_step.specs.Learning.{AreLearnable};
 ghost use Rattle.roc_base.specs.TxnId.{txn_lt};
-ghost use Rattle.roc_server_lists.specs.Carried.{list_with, carried, unknown_of};
-ghost use Rattle.roc_server_lists.specs.New.{AreLearntLast};
+ghost use Rattle.roc_step.specs.Carried.{list_with, carried, unknown_of};
+ghost use Rattle.roc_step.specs.New.{AreLearntLast};
 
 use crate::known_lists::KnownLists;
 use roc_base::{Edges, NoMemory, TxnId};

@@ -4,7 +4,7 @@ ghost use Rattle.std.specs.List.Sorted.{IsStrictlySortedBy};
 ghost use Rattle.roc_base.specs.TxnId.{txn_cmp};
 ghost use Rattle.roc_depgraph.specs.Deps.{entries_of};
 ghost use Rattle.roc_server_ancestors.specs.Least.{AreRows};
-ghost use Rattle.roc_server_lists.specs.Piggyback.{facts_of, AreFactsFor};
+ghost use Rattle.roc_step.specs.Piggyback.{facts_of, AreFactsFor};
 
 use crate::known_lists::KnownLists;
 use roc_base::{Edge, Edges, NoMemory, TxnId};

@@ -3,7 +3,7 @@ ghost use Rattle.std.specs.Prelude.{◌≡◌, ◌&&◌, ◌||◌, ◌∷◌, no
 ghost use Rattle.std.specs.List.{list_any};
 ghost use Rattle.roc_base.specs.TxnId.{is_txn};
 ghost use Rattle.roc_base.specs.Equality.{is_edges};
-ghost use Rattle.roc_server_lists.specs.Carried.{list_with, is_unlike};
+ghost use Rattle.roc_step.specs.Carried.{list_with, is_unlike};
 
 use crate::known_lists::KnownLists;
 use roc_base::{Edges, TxnId};

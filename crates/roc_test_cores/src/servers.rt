@@ -1,7 +1,7 @@
 //! What a server makes of messages that no honest node sends, and of repeated ones; and the entries that a start is given.
 ghost use Rattle.std.specs.Prelude.{◌≡◌, ◌<◌};
 ghost use Rattle.roc_server.specs.Ahead.{ServingFits};
-ghost use Rattle.roc_server.specs.Fits.{ServerFits};
+ghost use Rattle.roc_step.specs.Fits.{ServerFits};
 
 use crate::workloads::{counter, looked_at, twins};
 use roc_base::{Edge, Edges, Key, Nums, Shard, Steps, TxnId};

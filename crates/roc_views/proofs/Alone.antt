@@ -16,7 +16,7 @@ use Rattle.roc_depgraph.specs.declared.known.KnownList.{KnownList}
 use Rattle.roc_depgraph.specs.Deps.{is_known, entries_of, Precedes, PrecedesNow, IsDecided}
 use Rattle.roc_depgraph.specs.Reach.{Reaches, direct, through}
 use Rattle.roc_component.specs.Components.{Mates, among, IsComponentOrder}
-use Rattle.roc_server_lists.specs.New.{AreNewTaken, AreDecided, AreLedTo}
+use Rattle.roc_step.specs.New.{AreNewTaken, AreDecided, AreLedTo}
 
 -- ---- no edges
 

@@ -11,9 +11,9 @@ use Rattle.roc_msg.specs.declared.msg.Msg.{Msg}
 use Rattle.roc_msg.specs.declared.msg.Msg.TheVariants.{Read, ReadOk}
 use Rattle.roc_msg.specs.declared.msg.Envelope.{Envelope}
 use Rattle.roc_plan.specs.Groups.{Plan, procedure_of, groups_of, is_view_of}
-use Rattle.roc_server.specs.Below.{is_ended}
-use Rattle.roc_server.specs.State.{ServerState, Viewing}
-use Rattle.roc_server.specs.declared.kept_read.KeptRead.{KeptRead}
+use Rattle.roc_step.specs.Below.{is_ended}
+use Rattle.roc_step.specs.State.{ServerState, Viewing}
+use Rattle.roc_step.specs.declared.kept_read.KeptRead.{KeptRead}
 use Rattle.roc_coord.specs.Marks.{watermark}
 use Rattle.roc_coord.specs.State.{CoordState}
 use Rattle.roc_readonly.specs.declared.view.TakenRead.{TakenRead}

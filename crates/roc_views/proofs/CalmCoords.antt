@@ -11,7 +11,7 @@ use Rattle.roc_msg.specs.declared.msg.Msg.TheVariants.{Read, ReadOk}
 use Rattle.roc_msg.specs.declared.msg.Envelope.{Envelope}
 use Rattle.roc_msg.specs.declared.outbox.Outgoing.{Outgoing}
 use Rattle.roc_plan.specs.Groups.{Plan, is_view_of}
-use Rattle.roc_server.specs.State.{Viewing}
+use Rattle.roc_step.specs.State.{Viewing}
 use Rattle.roc_coord.specs.Marks.{watermark}
 use Rattle.roc_coord.specs.State.{CoordState}
 use Rattle.roc_readonly.specs.declared.view.View.{View}

@@ -9,8 +9,8 @@ use Rattle.roc_base.specs.declared.node.Node.TheVariants.{Server, Coord}
 use Rattle.roc_msg.specs.declared.msg.Envelope.{Envelope}
 use Rattle.roc_plan.specs.Groups.{Plan, procedure_of, groups_of, is_view_of}
 use Rattle.roc_plan.specs.Accepted.{IsAccepted}
-use Rattle.roc_server.specs.Below.{is_ended}
-use Rattle.roc_server.specs.State.{ServerState, Viewing}
+use Rattle.roc_step.specs.Below.{is_ended}
+use Rattle.roc_step.specs.State.{ServerState, Viewing}
 use Rattle.roc_readonly.specs.declared.view.View.{View}
 use Rattle.roc_readonly.specs.Round.{first_round}
 use Rattle.roc_coord.specs.Marks.{watermark}

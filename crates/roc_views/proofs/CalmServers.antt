@@ -18,13 +18,13 @@ use Rattle.roc_plan.specs.Groups.{Plan, procedure_of, groups_of, shard_of, group
 use Rattle.roc_plan.specs.Accepted.{IsAccepted}
 use Rattle.roc_group.specs.declared.access.Access.{Access}
 use Rattle.roc_group.specs.GroupRun.{group_run}
-use Rattle.roc_server.specs.Below.{is_ended}
-use Rattle.roc_server.specs.State.{answered, first_answer, ServerState, ServerStep, Viewing}
-use Rattle.roc_server.specs.declared.handled.Handled.TheVariants as server_answer
-use Rattle.roc_server.specs.declared.kept_read.KeptRead.{KeptRead}
-use Rattle.roc_server.specs.Runs.{accesses_of}
-use Rattle.roc_server.specs.Reads.{is_taken, read_call, read_uses, read_refusal, read_judged, with_accesses, reads_with, readok_of, ReadStep}
-use Rattle.roc_server.specs.Step as server
+use Rattle.roc_step.specs.Below.{is_ended}
+use Rattle.roc_step.specs.State.{answered, first_answer, ServerState, ServerStep, Viewing}
+use Rattle.roc_step.specs.declared.handled.Handled.TheVariants as server_answer
+use Rattle.roc_step.specs.declared.kept_read.KeptRead.{KeptRead}
+use Rattle.roc_step.specs.Runs.{accesses_of}
+use Rattle.roc_step.specs.Reads.{is_taken, read_call, read_uses, read_refusal, read_judged, with_accesses, reads_with, readok_of, ReadStep}
+use Rattle.roc_step.specs.Step as server
 use Rattle.roc_coord.specs.State.{CoordState}
 use Rattle.roc_readonly.specs.declared.view.View.{View}
 use Rattle.roc_readonly.specs.Round.{read_shard}

@@ -11,15 +11,15 @@ use Rattle.roc_msg.specs.declared.msg.Msg.TheVariants.{Read, ReadOk}
 use Rattle.roc_msg.specs.declared.outbox.Outgoing.{Outgoing}
 use Rattle.roc_msg.specs.declared.reason.Reason.TheVariants.{BadProc, BadGroup, BadInputs, NotHere}
 use Rattle.roc_plan.specs.Groups.{Plan, procedure_of, groups_of, shard_of, group_place, is_view_of}
-use Rattle.roc_server.specs.declared.handled.Handled.{Handled}
-use Rattle.roc_server.specs.declared.handled.Handled.TheVariants.{Done, Gone, Ignored}
-use Rattle.roc_server.specs.declared.kept_read.KeptRead.{KeptRead}
-use Rattle.roc_server.specs.Below.{is_ended}
-use Rattle.roc_server.specs.Fits.{IsReadOf, AreReadsOf, ServerFits}
-use Rattle.roc_server.specs.Reads.{read_judged, after_read, with_accesses, reads_with, is_free, in_turn, readok_of, is_taken, answering, AnswersReads, ReadStep}
-use Rattle.roc_server.specs.Runs.{accesses_of}
-use Rattle.roc_server.specs.State.{first_answer, ServerState, ServerStep, Viewing}
-use Rattle.roc_server.specs.Step.{Handles}
+use Rattle.roc_step.specs.declared.handled.Handled.{Handled}
+use Rattle.roc_step.specs.declared.handled.Handled.TheVariants.{Done, Gone, Ignored}
+use Rattle.roc_step.specs.declared.kept_read.KeptRead.{KeptRead}
+use Rattle.roc_step.specs.Below.{is_ended}
+use Rattle.roc_step.specs.Fits.{IsReadOf, AreReadsOf, ServerFits}
+use Rattle.roc_step.specs.Reads.{read_judged, after_read, with_accesses, reads_with, is_free, in_turn, readok_of, is_taken, answering, AnswersReads, ReadStep}
+use Rattle.roc_step.specs.Runs.{accesses_of}
+use Rattle.roc_step.specs.State.{first_answer, ServerState, ServerStep, Viewing}
+use Rattle.roc_step.specs.Step.{Handles}
 use Rattle.roc_protocol.specs.Fits.{IsServerHere}
 use Rattle.roc_protocol.proofs.ReadsHere.{for_read}
 use Rattle.roc_protocol.proofs.ServersHere.{KeepsServer, message_keeps}

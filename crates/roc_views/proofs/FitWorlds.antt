@@ -13,10 +13,10 @@ use Rattle.roc_base.specs.declared.node.Shard.{Shard}
 use Rattle.roc_msg.specs.declared.msg.Envelope.{Envelope}
 use Rattle.roc_msg.specs.declared.outbox.Outgoing.{Outgoing}
 use Rattle.roc_plan.specs.Groups.{Plan, procedure_of, is_view_of}
-use Rattle.roc_server.specs.Fits.{AreReadsOf, ServerFits}
-use Rattle.roc_server.specs.Reads.{ReadStep}
-use Rattle.roc_server.specs.State.{answered, ServerState, ServerStep, Viewing}
-use Rattle.roc_server.specs.Step as server
+use Rattle.roc_step.specs.Fits.{AreReadsOf, ServerFits}
+use Rattle.roc_step.specs.Reads.{ReadStep}
+use Rattle.roc_step.specs.State.{answered, ServerState, ServerStep, Viewing}
+use Rattle.roc_step.specs.Step as server
 use Rattle.roc_coord.specs.declared.transaction.Transaction.{Transaction}
 use Rattle.roc_coord.specs.Fits.{IsTransactionOf, CoordFits}
 use Rattle.roc_coord.specs.State.{CoordState}

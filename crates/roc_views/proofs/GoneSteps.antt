@@ -15,7 +15,7 @@ use Rattle.roc_base.specs.declared.node.Shard.{Shard}
 use Rattle.roc_base.specs.TxnId.{is_txn}
 use Rattle.roc_base.specs.Edge.{Dependency}
 use Rattle.roc_depgraph.specs.Deps.{list_of, IsDecided}
-use Rattle.roc_await.specs.Waits.{was_asked_for}
+use Rattle.roc_step.specs.Waits.{was_asked_for}
 use Rattle.roc_depgraph.specs.declared.known.KnownList.{KnownList}
 use Rattle.roc_msg.specs.declared.msg.Msg.{Msg}
 use Rattle.roc_msg.specs.declared.msg.Msg.TheVariants.{Start, Commit, Fetch, Known, Ended, Settled, Read}
@@ -23,20 +23,20 @@ use Rattle.roc_msg.specs.declared.outbox.Outgoing.{Outgoing}
 use Rattle.roc_msg.specs.declared.reason.Reason.TheVariants.{NotHere, Foreign}
 use Rattle.roc_plan.specs.Groups.{Plan}
 use Rattle.roc_group.specs.GroupRun.{call, GroupCall}
-use Rattle.roc_server_lists.proofs.ForgottenLinks.{left_decided}
-use Rattle.roc_server.specs.declared.handled.Handled.{Handled}
-use Rattle.roc_server.specs.declared.handled.Handled.TheVariants as answer
-use Rattle.roc_server.specs.declared.kept_read.KeptRead.{KeptRead}
-use Rattle.roc_server.specs.declared.started.StartedGroup.{StartedGroup}
-use Rattle.roc_server.specs.Below.{is_ended}
-use Rattle.roc_server.specs.Forgets.{forget, forgetting}
-use Rattle.roc_server.specs.Lists.{after_commit, commit_refusal, fetch_taken, after_fetch, after_known, known_refusal, after_ended, after_settled, settled_to, lists_settled, decides}
-use Rattle.roc_server.specs.Reads.{read_refusal, read_judged, holds_up, is_free, in_turn, readok_of, reads_with, is_taken, with_accesses, answering, AnswersReads, ReadStep}
-use Rattle.roc_server.specs.Runs.{accesses_of}
-use Rattle.roc_server.specs.Start.{start_judged, start_taken, start_refusal}
-use Rattle.roc_server.specs.State.{refused, answered, ignored, hearing, find_group, is_here, ServerState, ServerStep, Viewing}
-use Rattle.roc_server.specs.Step.{after_message}
-use Rattle.roc_server.specs.Step as server
+use Rattle.roc_step.proofs.ForgottenLinks.{left_decided}
+use Rattle.roc_step.specs.declared.handled.Handled.{Handled}
+use Rattle.roc_step.specs.declared.handled.Handled.TheVariants as answer
+use Rattle.roc_step.specs.declared.kept_read.KeptRead.{KeptRead}
+use Rattle.roc_step.specs.declared.started.StartedGroup.{StartedGroup}
+use Rattle.roc_step.specs.Below.{is_ended}
+use Rattle.roc_step.specs.Forgets.{forget, forgetting}
+use Rattle.roc_step.specs.Lists.{after_commit, commit_refusal, fetch_taken, after_fetch, after_known, known_refusal, after_ended, after_settled, settled_to, lists_settled, decides}
+use Rattle.roc_step.specs.Reads.{read_refusal, read_judged, holds_up, is_free, in_turn, readok_of, reads_with, is_taken, with_accesses, answering, AnswersReads, ReadStep}
+use Rattle.roc_step.specs.Runs.{accesses_of}
+use Rattle.roc_step.specs.Start.{start_judged, start_taken, start_refusal}
+use Rattle.roc_step.specs.State.{refused, answered, ignored, hearing, find_group, is_here, ServerState, ServerStep, Viewing}
+use Rattle.roc_step.specs.Step.{after_message}
+use Rattle.roc_step.specs.Step as server
 use Rattle.roc_coord.specs.Step as coord
 use Rattle.roc_coord.specs.Submit.{Submission, after_submit}
 use Rattle.roc_coord.specs.declared.handled.Handled.{Handled as CoordHandled}

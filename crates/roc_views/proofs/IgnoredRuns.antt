@@ -6,23 +6,23 @@ use Rattle.roc_base.specs.declared.node.Shard.{Shard}
 use Rattle.roc_base.specs.Edge.{Dependency}
 use Rattle.roc_depgraph.specs.declared.known.KnownList.{KnownList}
 use Rattle.roc_depgraph.specs.Deps.{list_of}
-use Rattle.roc_await.specs.Waits.{was_asked_for}
+use Rattle.roc_step.specs.Waits.{was_asked_for}
 use Rattle.roc_msg.specs.declared.msg.Msg.{Msg}
 use Rattle.roc_msg.specs.declared.msg.Msg.TheVariants.{Start, Commit, Fetch, Known, Settled, Read}
 use Rattle.roc_msg.specs.declared.reason.Reason.TheVariants.{NotHere}
 use Rattle.roc_plan.specs.Groups.{Plan}
 use Rattle.roc_group.specs.GroupRun.{GroupCall, call}
-use Rattle.roc_server.specs.declared.started.StartedGroup.{StartedGroup}
-use Rattle.roc_server.specs.State.{refused, ignored, answered, hearing, is_here, find_group, ServerState, ServerStep}
-use Rattle.roc_server.specs.declared.handled.Handled.{Handled}
-use Rattle.roc_server.specs.declared.handled.Handled.TheVariants.{Gone}
-use Rattle.roc_server.specs.Below.{is_ended}
-use Rattle.roc_server.specs.Forgets.{forgetting}
-use Rattle.roc_server.specs.Start.{start_refusal, start_taken, start_judged}
-use Rattle.roc_server.specs.Lists.{decides, commit_refusal, after_commit, fetch_taken, settled_to, after_fetch, known_refusal, after_known, lists_settled, after_settled}
+use Rattle.roc_step.specs.declared.started.StartedGroup.{StartedGroup}
+use Rattle.roc_step.specs.State.{refused, ignored, answered, hearing, is_here, find_group, ServerState, ServerStep}
+use Rattle.roc_step.specs.declared.handled.Handled.{Handled}
+use Rattle.roc_step.specs.declared.handled.Handled.TheVariants.{Gone}
+use Rattle.roc_step.specs.Below.{is_ended}
+use Rattle.roc_step.specs.Forgets.{forgetting}
+use Rattle.roc_step.specs.Start.{start_refusal, start_taken, start_judged}
+use Rattle.roc_step.specs.Lists.{decides, commit_refusal, after_commit, fetch_taken, settled_to, after_fetch, known_refusal, after_known, lists_settled, after_settled}
 use Rattle.std.proofs.lemmas.Bool.{false≢true}
-use Rattle.roc_server.specs.Reads.{is_taken, read_refusal, read_judged}
-use Rattle.roc_server.specs.Step.{Findings, after_message}
+use Rattle.roc_step.specs.Reads.{is_taken, read_refusal, read_judged}
+use Rattle.roc_step.specs.Step.{Findings, after_message}
 
 -- where a message is ignored, nothing runs
 abbrev RunsNone : ServerStep → Type 0

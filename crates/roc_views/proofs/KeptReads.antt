@@ -17,13 +17,13 @@ use Rattle.roc_msg.specs.declared.msg.Msg.TheVariants.{Read}
 use Rattle.roc_msg.specs.declared.outbox.Outgoing.{Outgoing}
 use Rattle.roc_rows.specs.Versions.{Counts}
 use Rattle.roc_plan.specs.Groups.{Plan}
-use Rattle.roc_server.specs.declared.handled.Handled.{Handled}
-use Rattle.roc_server.specs.declared.handled.Handled.TheVariants as server_answer
-use Rattle.roc_server.specs.declared.kept_read.KeptRead.{KeptRead}
-use Rattle.roc_server.specs.declared.started.StartedGroup.{StartedGroup}
-use Rattle.roc_server.specs.State.{ServerState, ServerStep, Viewing}
-use Rattle.roc_server.specs.Runs.{accesses_of}
-use Rattle.roc_server.specs.Reads.{is_taken, with_accesses, is_same_read, with_read, reads_with, holds_up, is_free, is_read_before, put_read, in_turn, readok_of, answering, AnswersReads, ReadStep}
+use Rattle.roc_step.specs.declared.handled.Handled.{Handled}
+use Rattle.roc_step.specs.declared.handled.Handled.TheVariants as server_answer
+use Rattle.roc_step.specs.declared.kept_read.KeptRead.{KeptRead}
+use Rattle.roc_step.specs.declared.started.StartedGroup.{StartedGroup}
+use Rattle.roc_step.specs.State.{ServerState, ServerStep, Viewing}
+use Rattle.roc_step.specs.Runs.{accesses_of}
+use Rattle.roc_step.specs.Reads.{is_taken, with_accesses, is_same_read, with_read, reads_with, holds_up, is_free, is_read_before, put_read, in_turn, readok_of, answering, AnswersReads, ReadStep}
 use Rattle.roc_views.proofs.ViewServed.{turn_has}
 
 -- a group that started here, of a transaction that is not decided here, writes a cell that the read's group reads

@@ -14,11 +14,11 @@ use Rattle.roc_rows.specs.Store.{empty, write}
 use Rattle.roc_rows.specs.Versions.{unwritten, counted, version}
 use Rattle.roc_rows.proofs.Counts.{version-unwritten, version-counted_same}
 use Rattle.roc_rows.proofs.Stored.{read-write_same}
-use Rattle.roc_server.specs.Below.{none_below, raised}
-use Rattle.roc_server.specs.Reads.{AnswersReads}
-use Rattle.roc_server.specs.declared.handled.Handled.TheVariants.{Done, Gone}
-use Rattle.roc_server.specs.State.{answered, refused, ServerState}
-use Rattle.roc_server.specs.Step.{Handles}
+use Rattle.roc_step.specs.Below.{none_below, raised}
+use Rattle.roc_step.specs.Reads.{AnswersReads}
+use Rattle.roc_step.specs.declared.handled.Handled.TheVariants.{Done, Gone}
+use Rattle.roc_step.specs.State.{answered, refused, ServerState}
+use Rattle.roc_step.specs.Step.{Handles}
 use Rattle.roc_readonly.specs.declared.view.View.{View}
 use Rattle.roc_readonly.specs.Round.{first_round}
 use Rattle.roc_coord.specs.State.{CoordState}

@@ -10,12 +10,12 @@ use Rattle.roc_msg.specs.declared.msg.Msg.TheVariants.{Start, StartOk, Commit, C
 use Rattle.roc_rows.specs.declared.cell.Cell.{Cell}
 use Rattle.roc_rows.specs.Store.{empty, write}
 use Rattle.roc_rows.specs.Versions.{unwritten, counted}
-use Rattle.roc_await.specs.Waits.{none_waiting}
-use Rattle.roc_server.specs.declared.started.StartedGroup.{StartedGroup}
-use Rattle.roc_server.specs.Reads.{first_viewing}
-use Rattle.roc_server.specs.declared.handled.Handled.TheVariants.{Done}
-use Rattle.roc_server.specs.State.{ServerState, Viewing}
-use Rattle.roc_server.specs.Step.{Findings, Handles}
+use Rattle.roc_step.specs.Waits.{none_waiting}
+use Rattle.roc_step.specs.declared.started.StartedGroup.{StartedGroup}
+use Rattle.roc_step.specs.Reads.{first_viewing}
+use Rattle.roc_step.specs.declared.handled.Handled.TheVariants.{Done}
+use Rattle.roc_step.specs.State.{ServerState, Viewing}
+use Rattle.roc_step.specs.Step.{Findings, Handles}
 use Rattle.roc_coord.specs.declared.transaction.Transaction.{Transaction}
 use Rattle.roc_coord.specs.State.{CoordState}
 use Rattle.roc_coord.specs.Starts.{shards_below}

@@ -15,9 +15,9 @@ use Rattle.roc_msg.specs.declared.msg.Envelope.{Envelope}
 use Rattle.roc_msg.specs.declared.msg.Msg.{Msg}
 use Rattle.roc_plan.specs.Groups.{Plan, procedure_of, is_view_of}
 use Rattle.roc_readonly.specs.Round.{first_round}
-use Rattle.roc_server.specs.Reads.{reads_behind}
-use Rattle.roc_server.specs.State.{answered}
-use Rattle.roc_server.specs.Step as server
+use Rattle.roc_step.specs.Reads.{reads_behind}
+use Rattle.roc_step.specs.State.{answered}
+use Rattle.roc_step.specs.Step as server
 use Rattle.roc_coord.specs.State.{CoordState}
 use Rattle.roc_coord.specs.Step.{after_message}
 use Rattle.roc_coord.specs.Submit.{next_id, new_transaction, accepted, accepted_view, after_submit, Submission}

@@ -12,8 +12,8 @@ use Rattle.roc_msg.specs.declared.msg.Msg.{Msg}
 use Rattle.roc_msg.specs.declared.msg.Envelope.{Envelope}
 use Rattle.roc_msg.specs.Msg.{id_of}
 use Rattle.roc_plan.specs.Groups.{Plan, groups_of, is_view_of}
-use Rattle.roc_server.specs.declared.started.StartedGroup.{StartedGroup}
-use Rattle.roc_server.specs.State.{ServerState}
+use Rattle.roc_step.specs.declared.started.StartedGroup.{StartedGroup}
+use Rattle.roc_step.specs.State.{ServerState}
 use Rattle.roc_coord.specs.State.{CoordState}
 use Rattle.roc_readonly.specs.declared.view.View.{View}
 use Rattle.roc_readonly.specs.Round.{view_groups, find_read, read_shard, is_full}

@@ -29,11 +29,11 @@ use Rattle.roc_law_log.specs.Steps.{LogSteps}
 use Rattle.roc_law_log.specs.Invariants.{LogInvariants}
 use Rattle.roc_law_log.specs.Clean.{IsClean, writes_to}
 use Rattle.roc_law_log.proofs.Following.{AreFound}
-use Rattle.roc_server_lists.specs.New.{AreDecided}
-use Rattle.roc_server.specs.declared.kept_read.KeptRead.{KeptRead}
-use Rattle.roc_server.specs.declared.started.StartedGroup.{StartedGroup}
-use Rattle.roc_server.specs.State.{is_group, ServerState}
-use Rattle.roc_server.specs.Reads.{read_call, read_uses, holds_up, is_free}
+use Rattle.roc_step.specs.New.{AreDecided}
+use Rattle.roc_step.specs.declared.kept_read.KeptRead.{KeptRead}
+use Rattle.roc_step.specs.declared.started.StartedGroup.{StartedGroup}
+use Rattle.roc_step.specs.State.{is_group, ServerState}
+use Rattle.roc_step.specs.Reads.{read_call, read_uses, holds_up, is_free}
 use Rattle.roc_protocol.specs.PlanAssumptions.{use_of, IsSchemeOf}
 use Rattle.roc_protocol.specs.Beginnings.{Beginning}
 use Rattle.roc_protocol.proofs.Means.{run_of, entry_run, ServerMeans}

@@ -22,10 +22,10 @@ use Rattle.roc_plan.specs.Groups.{Plan, procedure_of, groups_of, is_view_of, bou
 use Rattle.roc_plan.specs.Accepted.{IsAccepted}
 use Rattle.roc_whole.specs.Serial as whole
 use Rattle.roc_group.specs.declared.access.Access.{Access}
-use Rattle.roc_server.specs.declared.kept_read.KeptRead.{KeptRead}
-use Rattle.roc_server.specs.State.{ServerStep, Viewing}
-use Rattle.roc_server.specs.Reads.{is_taken, read_call, read_uses, with_accesses, reads_with, is_free, in_turn, readok_of, answering, AnswersReads, ReadStep}
-use Rattle.roc_server.specs.Runs.{accesses_of}
+use Rattle.roc_step.specs.declared.kept_read.KeptRead.{KeptRead}
+use Rattle.roc_step.specs.State.{ServerStep, Viewing}
+use Rattle.roc_step.specs.Reads.{is_taken, read_call, read_uses, with_accesses, reads_with, is_free, in_turn, readok_of, answering, AnswersReads, ReadStep}
+use Rattle.roc_step.specs.Runs.{accesses_of}
 use Rattle.roc_readonly.specs.declared.view.Round.{Round}
 use Rattle.roc_readonly.specs.declared.view.Round.TheVariants.{Waits, Ends, GoesOn}
 use Rattle.roc_readonly.specs.declared.view.TakenRead.{TakenRead}

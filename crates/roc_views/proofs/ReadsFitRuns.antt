@@ -12,8 +12,8 @@ use Rattle.roc_msg.specs.declared.outbox.Outgoing.{Outgoing}
 use Rattle.roc_plan.specs.Groups.{Plan, procedure_of, is_view_of}
 use Rattle.roc_plan.specs.Accepted.{IsAccepted}
 use Rattle.roc_whole.specs.Serial as whole
-use Rattle.roc_server.specs.State.{ServerState, ServerStep, Viewing}
-use Rattle.roc_server.specs.Step as server
+use Rattle.roc_step.specs.State.{ServerState, ServerStep, Viewing}
+use Rattle.roc_step.specs.Step as server
 use Rattle.roc_coord.specs.declared.handled.SubmitFault.{SubmitFault}
 use Rattle.roc_coord.specs.declared.handled.SubmitFault.TheVariants as fault
 use Rattle.roc_coord.specs.State.{CoordState}

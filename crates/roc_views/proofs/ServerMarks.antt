@@ -12,29 +12,29 @@ use Rattle.roc_base.specs.TxnId.{is_txn}
 use Rattle.roc_base.specs.Edge.{Dependency}
 use Rattle.roc_depgraph.specs.declared.known.KnownList.{KnownList}
 use Rattle.roc_depgraph.specs.Deps.{list_of, is_known}
-use Rattle.roc_await.specs.declared.waits.OpenFetch.{OpenFetch}
-use Rattle.roc_await.specs.Waits.{was_asked_for, askers_of}
+use Rattle.roc_step.specs.declared.waits.OpenFetch.{OpenFetch}
+use Rattle.roc_step.specs.Waits.{was_asked_for, askers_of}
 use Rattle.roc_msg.specs.declared.msg.Msg.{Msg}
 use Rattle.roc_msg.specs.declared.msg.Msg.TheVariants.{Start, Commit, Fetch, Known, Ended, Settled, Read}
 use Rattle.roc_msg.specs.declared.outbox.Outgoing.{Outgoing}
 use Rattle.roc_msg.specs.declared.reason.Reason.TheVariants.{NotHere}
 use Rattle.roc_plan.specs.Groups.{Plan}
 use Rattle.roc_group.specs.GroupRun.{GroupCall, call}
-use Rattle.roc_server.specs.declared.started.StartedGroup.{StartedGroup}
-use Rattle.roc_server.specs.declared.handled.Handled.{Handled}
-use Rattle.roc_server.specs.declared.handled.Handled.TheVariants.{Gone}
-use Rattle.roc_server.specs.Below.{mark_of, is_ended, raised}
-use Rattle.roc_server.proofs.Raised.{set_cases}
-use Rattle.roc_server.specs.State.{refused, ignored, answered, hearing, is_here, find_group, Lists, ServerState, ServerStep}
-use Rattle.roc_server.specs.Forgets.{forgetting}
-use Rattle.roc_server.specs.Start.{start_refusal, new_group, startok_of, start_taken, start_judged}
-use Rattle.roc_server.specs.Runs.{commitok_of, run_group, run_groups, buffered_here, take_all}
-use Rattle.roc_server.specs.Reads.{is_taken, read_refusal, read_judged}
-use Rattle.roc_server_lists.specs.Carried.{carried, list_with, unknown_of}
-use Rattle.roc_server_lists.specs.Asking.{known_to, knowns_for, fetch_from}
-use Rattle.roc_server.specs.Lists.{missing_after, lists_after, decides, taught, commit_refusal, after_commit}
-use Rattle.roc_server.specs.Lists.{fetch_taken, settled_to, after_fetch, known_refusal, after_known, lists_settled, after_settled}
-use Rattle.roc_server.specs.Step.{Findings, after_message, tick_sends}
+use Rattle.roc_step.specs.declared.started.StartedGroup.{StartedGroup}
+use Rattle.roc_step.specs.declared.handled.Handled.{Handled}
+use Rattle.roc_step.specs.declared.handled.Handled.TheVariants.{Gone}
+use Rattle.roc_step.specs.Below.{mark_of, is_ended, raised}
+use Rattle.roc_step.proofs.Raised.{set_cases}
+use Rattle.roc_step.specs.State.{refused, ignored, answered, hearing, is_here, find_group, Lists, ServerState, ServerStep}
+use Rattle.roc_step.specs.Forgets.{forgetting}
+use Rattle.roc_step.specs.Start.{start_refusal, new_group, startok_of, start_taken, start_judged}
+use Rattle.roc_step.specs.Runs.{commitok_of, run_group, run_groups, buffered_here, take_all}
+use Rattle.roc_step.specs.Reads.{is_taken, read_refusal, read_judged}
+use Rattle.roc_step.specs.Carried.{carried, list_with, unknown_of}
+use Rattle.roc_step.specs.Asking.{known_to, knowns_for, fetch_from}
+use Rattle.roc_step.specs.Lists.{missing_after, lists_after, decides, taught, commit_refusal, after_commit}
+use Rattle.roc_step.specs.Lists.{fetch_taken, settled_to, after_fetch, known_refusal, after_known, lists_settled, after_settled}
+use Rattle.roc_step.specs.Step.{Findings, after_message, tick_sends}
 
 -- the message tells a watermark above t
 abbrev pub IsAbove : Msg → TxnId → Type 0

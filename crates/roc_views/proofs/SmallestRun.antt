@@ -6,12 +6,12 @@ use Rattle.roc_base.specs.declared.node.Node.TheVariants.{Server, Coord}
 use Rattle.roc_msg.specs.declared.msg.Envelope.{Envelope}
 use Rattle.roc_msg.specs.declared.msg.Msg.{Msg}
 use Rattle.roc_msg.specs.declared.msg.Msg.TheVariants.{Start, StartOk, Commit, CommitOk}
-use Rattle.roc_await.specs.Waits.{none_waiting}
-use Rattle.roc_server.specs.declared.started.StartedGroup.{StartedGroup}
-use Rattle.roc_server.specs.Reads.{first_viewing}
-use Rattle.roc_server.specs.declared.handled.Handled.TheVariants.{Done}
-use Rattle.roc_server.specs.State.{ServerState, ServerStep}
-use Rattle.roc_server.specs.Step.{Handles}
+use Rattle.roc_step.specs.Waits.{none_waiting}
+use Rattle.roc_step.specs.declared.started.StartedGroup.{StartedGroup}
+use Rattle.roc_step.specs.Reads.{first_viewing}
+use Rattle.roc_step.specs.declared.handled.Handled.TheVariants.{Done}
+use Rattle.roc_step.specs.State.{ServerState, ServerStep}
+use Rattle.roc_step.specs.Step.{Handles}
 use Rattle.roc_coord.specs.declared.transaction.Transaction.{Transaction}
 use Rattle.roc_coord.specs.State.{CoordState}
 use Rattle.roc_coord.specs.Starts.{shards_below}

@@ -14,11 +14,11 @@ use Rattle.roc_msg.specs.declared.msg.Msg.TheVariants.{Start, Commit, Fetch, Kno
 use Rattle.roc_msg.specs.declared.msg.Envelope.{Envelope}
 use Rattle.roc_msg.specs.declared.outbox.Outgoing.{Outgoing}
 use Rattle.roc_plan.specs.Groups.{Plan, procedure_of, is_view_of}
-use Rattle.roc_server.specs.declared.handled.Handled.{Handled as ServerHandled}
-use Rattle.roc_server.specs.State.{answered, ServerState, ServerStep, Viewing}
-use Rattle.roc_server.specs.Reads.{is_taken, with_accesses, reads_with, is_free, in_turn, readok_of, answering, read_refusal, read_judged, AnswersReads, ReadStep}
-use Rattle.roc_server.specs.Runs.{accesses_of}
-use Rattle.roc_server.specs.Step as server
+use Rattle.roc_step.specs.declared.handled.Handled.{Handled as ServerHandled}
+use Rattle.roc_step.specs.State.{answered, ServerState, ServerStep, Viewing}
+use Rattle.roc_step.specs.Reads.{is_taken, with_accesses, reads_with, is_free, in_turn, readok_of, answering, read_refusal, read_judged, AnswersReads, ReadStep}
+use Rattle.roc_step.specs.Runs.{accesses_of}
+use Rattle.roc_step.specs.Step as server
 use Rattle.roc_coord.specs.declared.handled.SubmitFault.{SubmitFault}
 use Rattle.roc_coord.specs.declared.handled.SubmitFault.TheVariants as fault
 use Rattle.roc_coord.specs.declared.transaction.Transaction.{Transaction}

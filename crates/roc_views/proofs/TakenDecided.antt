@@ -6,7 +6,7 @@ use Rattle.roc_base.specs.declared.id.TxnId.{TxnId}
 use Rattle.roc_depgraph.specs.Deps.{IsDecided}
 use Rattle.roc_plan.specs.Groups.{Plan}
 use Rattle.roc_law_log.specs.Scheme.{Scheme, IsSoundScheme}
-use Rattle.roc_server.specs.State.{ServerState}
+use Rattle.roc_step.specs.State.{ServerState}
 use Rattle.roc_protocol.specs.Beginnings.{Beginning, IsBeginning}
 use Rattle.roc_protocol.specs.Beside.{IsRunBeside}
 use Rattle.roc_protocol.specs.Inner.Given.{LogLaws, StoreLaws}

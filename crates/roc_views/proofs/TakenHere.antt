@@ -18,12 +18,12 @@ use Rattle.roc_msg.specs.declared.reason.Reason.{Reason}
 use Rattle.roc_msg.specs.declared.reason.Reason.TheVariants.{Stale, Unfit}
 use Rattle.roc_plan.specs.Groups.{Plan, procedure_of, groups_of, is_view_of, bound_of, outs_of, shard_of, group_place}
 use Rattle.roc_whole.specs.Serial as whole
-use Rattle.roc_server.specs.Below.{is_ended}
-use Rattle.roc_server.specs.declared.handled.Handled.{Handled}
-use Rattle.roc_server.specs.declared.handled.Handled.TheVariants as server_answer
-use Rattle.roc_server.specs.State.{ServerState, ServerStep}
-use Rattle.roc_server.specs.Reads.{read_refusal, read_judged}
-use Rattle.roc_server.specs.Step as server
+use Rattle.roc_step.specs.Below.{is_ended}
+use Rattle.roc_step.specs.declared.handled.Handled.{Handled}
+use Rattle.roc_step.specs.declared.handled.Handled.TheVariants as server_answer
+use Rattle.roc_step.specs.State.{ServerState, ServerStep}
+use Rattle.roc_step.specs.Reads.{read_refusal, read_judged}
+use Rattle.roc_step.specs.Step as server
 use Rattle.roc_readonly.specs.declared.view.Round.{Round}
 use Rattle.roc_readonly.specs.declared.view.Round.TheVariants.{Waits, Ends, GoesOn}
 use Rattle.roc_readonly.specs.declared.view.TakenRead.{TakenRead}

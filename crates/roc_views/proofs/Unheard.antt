@@ -11,10 +11,10 @@ use Rattle.roc_base.specs.declared.node.Node.TheVariants.{Server, Coord}
 use Rattle.roc_msg.specs.declared.msg.Envelope.{Envelope}
 use Rattle.roc_msg.specs.declared.outbox.Outgoing.{Outgoing}
 use Rattle.roc_plan.specs.Groups.{Plan, is_view_of}
-use Rattle.roc_server.specs.Below.{is_ended}
-use Rattle.roc_server.specs.Reads.{ReadStep}
-use Rattle.roc_server.specs.State.{answered, ServerState, ServerStep}
-use Rattle.roc_server.specs.Step as server
+use Rattle.roc_step.specs.Below.{is_ended}
+use Rattle.roc_step.specs.Reads.{ReadStep}
+use Rattle.roc_step.specs.State.{answered, ServerState, ServerStep}
+use Rattle.roc_step.specs.Step as server
 use Rattle.roc_readonly.specs.Round.{first_round}
 use Rattle.roc_coord.specs.State.{CoordState}
 use Rattle.roc_coord.specs.Step.{after_message}

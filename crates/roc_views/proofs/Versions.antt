@@ -22,9 +22,9 @@ use Rattle.roc_law_log.specs.Invariants.{LogInvariants, LogGrows}
 use Rattle.roc_law_log.specs.Clean.{writes_of, writes_among, writes_to}
 use Rattle.roc_law_log.proofs.Following.{AreFound}
 use Rattle.roc_law_log.proofs.Writes.{among_append, among_same}
-use Rattle.roc_server.specs.declared.started.StartedGroup.{StartedGroup}
-use Rattle.roc_server.specs.Runs.{accesses_of}
-use Rattle.roc_server.specs.Reads.{with_access, with_accesses}
+use Rattle.roc_step.specs.declared.started.StartedGroup.{StartedGroup}
+use Rattle.roc_step.specs.Runs.{accesses_of}
+use Rattle.roc_step.specs.Reads.{with_access, with_accesses}
 use Rattle.roc_protocol.specs.PlanAssumptions.{use_of}
 use Rattle.roc_protocol.specs.Beginnings.{Beginning}
 use Rattle.roc_protocol.specs.Happens.{ran_at}

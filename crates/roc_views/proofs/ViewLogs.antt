@@ -12,7 +12,7 @@ use Rattle.roc_whole.specs.Serial as whole
 use Rattle.roc_law_log.specs.Scheme.{Scheme, IsSoundScheme}
 use Rattle.roc_law_log.specs.Log.{Log, first_log}
 use Rattle.roc_law_log.proofs.Following.{AreFound}
-use Rattle.roc_server.specs.State.{Viewing}
+use Rattle.roc_step.specs.State.{Viewing}
 use Rattle.roc_coord.specs.State.{CoordState}
 use Rattle.roc_audit.specs.declared.entry.Entry.{Entry}
 use Rattle.roc_audit.specs.declared.entry.Entry.TheVariants.{Submitted, Answered}

@@ -22,10 +22,10 @@ use Rattle.roc_law_log.specs.Log.{Log}
 use Rattle.roc_law_log.specs.Steps.{LogSteps, no_steps}
 use Rattle.roc_law_log.specs.Invariants.{LogInvariants, LogGrows}
 use Rattle.roc_law_log.proofs.Following.{AreFound}
-use Rattle.roc_server.specs.State.{answered, ServerState, ServerStep, Viewing}
-use Rattle.roc_server.specs.Reads.{is_taken}
-use Rattle.roc_server.specs.declared.started.StartedGroup.{StartedGroup}
-use Rattle.roc_server.specs.Step as server
+use Rattle.roc_step.specs.State.{answered, ServerState, ServerStep, Viewing}
+use Rattle.roc_step.specs.Reads.{is_taken}
+use Rattle.roc_step.specs.declared.started.StartedGroup.{StartedGroup}
+use Rattle.roc_step.specs.Step as server
 use Rattle.roc_coord.specs.declared.handled.Handled.{Handled}
 use Rattle.roc_coord.specs.declared.handled.Handled.TheVariants as coord_answer
 use Rattle.roc_coord.specs.State.{ignored, find_transaction, find_view, CoordState, CoordStep}

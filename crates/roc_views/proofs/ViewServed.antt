@@ -22,13 +22,13 @@ use Rattle.roc_law_log.specs.Steps.{LogSteps, no_steps}
 use Rattle.roc_law_log.specs.Invariants.{LogInvariants, LogGrows}
 use Rattle.roc_law_log.specs.Clean.{writes_to, writes_among}
 use Rattle.roc_law_log.proofs.Following.{AreFound}
-use Rattle.roc_server.specs.declared.handled.Handled.{Handled}
-use Rattle.roc_server.specs.declared.handled.Handled.TheVariants as server_answer
-use Rattle.roc_server.specs.declared.kept_read.KeptRead.{KeptRead}
-use Rattle.roc_server.specs.declared.started.StartedGroup.{StartedGroup}
-use Rattle.roc_server.specs.State.{ServerStep, Viewing}
-use Rattle.roc_server.specs.Runs.{accesses_of}
-use Rattle.roc_server.specs.Reads.{is_taken, with_accesses, is_same_read, reads_with, is_free, is_read_before, put_read, in_turn, readok_of, answering, AnswersReads, ReadStep}
+use Rattle.roc_step.specs.declared.handled.Handled.{Handled}
+use Rattle.roc_step.specs.declared.handled.Handled.TheVariants as server_answer
+use Rattle.roc_step.specs.declared.kept_read.KeptRead.{KeptRead}
+use Rattle.roc_step.specs.declared.started.StartedGroup.{StartedGroup}
+use Rattle.roc_step.specs.State.{ServerStep, Viewing}
+use Rattle.roc_step.specs.Runs.{accesses_of}
+use Rattle.roc_step.specs.Reads.{is_taken, with_accesses, is_same_read, reads_with, is_free, is_read_before, put_read, in_turn, readok_of, answering, AnswersReads, ReadStep}
 use Rattle.roc_audit.specs.Order.{noted}
 use Rattle.roc_protocol.specs.PlanAssumptions.{IsSchemeOf}
 use Rattle.roc_protocol.specs.Beginnings as protocol

@@ -20,8 +20,8 @@ use Rattle.roc_law_log.specs.Scheme.{Scheme}
 use Rattle.roc_law_log.specs.Log.{Log}
 use Rattle.roc_law_log.specs.Steps.{LogSteps, no_steps, one_step_more}
 use Rattle.roc_law_log.specs.Clean.{writes_to}
-use Rattle.roc_server.specs.declared.kept_read.KeptRead.{KeptRead}
-use Rattle.roc_server.specs.State.{Viewing}
+use Rattle.roc_step.specs.declared.kept_read.KeptRead.{KeptRead}
+use Rattle.roc_step.specs.State.{Viewing}
 use Rattle.roc_coord.specs.State.{CoordState}
 use Rattle.roc_readonly.specs.declared.view.View.{View}
 use Rattle.roc_audit.specs.declared.entry.Entry.{Entry}

@@ -5,8 +5,8 @@ use Rattle.roc_msg.specs.declared.msg.Msg.{Msg}
 use Rattle.roc_msg.specs.declared.msg.Msg.TheVariants.{Read, ReadOk}
 use Rattle.roc_msg.specs.declared.msg.Envelope.{Envelope}
 use Rattle.roc_plan.specs.Groups.{Plan}
-use Rattle.roc_server.specs.State.{ServerState, Viewing}
-use Rattle.roc_server.specs.Fits.{AreReadsOf, ServerFits}
+use Rattle.roc_step.specs.State.{ServerState, Viewing}
+use Rattle.roc_step.specs.Fits.{AreReadsOf, ServerFits}
 use Rattle.roc_coord.specs.State.{CoordState}
 use Rattle.roc_coord.specs.Fits.{CoordFits}
 use Rattle.roc_protocol.specs.Fits as transactions

@@ -7,9 +7,9 @@ use Rattle.roc_msg.specs.declared.msg.Msg.{Msg}
 use Rattle.roc_msg.specs.declared.msg.Envelope.{Envelope}
 use Rattle.roc_msg.specs.declared.outbox.Outgoing.{Outgoing}
 use Rattle.roc_plan.specs.Groups.{Plan}
-use Rattle.roc_server.specs.State.{answered, ServerState, ServerStep, Viewing}
-use Rattle.roc_server.specs.Reads.{AnswersReads, ReadStep}
-use Rattle.roc_server.specs.Step as server
+use Rattle.roc_step.specs.State.{answered, ServerState, ServerStep, Viewing}
+use Rattle.roc_step.specs.Reads.{AnswersReads, ReadStep}
+use Rattle.roc_step.specs.Step as server
 use Rattle.roc_coord.specs.declared.handled.SubmitFault.{SubmitFault}
 use Rattle.roc_coord.specs.declared.handled.SubmitFault.TheVariants as fault
 use Rattle.roc_coord.specs.State.{CoordState, CoordStep}

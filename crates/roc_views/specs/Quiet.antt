@@ -7,10 +7,10 @@ use Rattle.roc_depgraph.specs.Reach.{ReachesOrIs}
 use Rattle.roc_msg.specs.declared.msg.Envelope.{Envelope}
 use Rattle.roc_msg.specs.Msg.{id_of}
 use Rattle.roc_plan.specs.Groups.{Plan, is_view_of}
-use Rattle.roc_server.specs.declared.kept_read.KeptRead.{KeptRead}
-use Rattle.roc_server.specs.declared.started.StartedGroup.{StartedGroup}
-use Rattle.roc_server.specs.Reads.{holds_up}
-use Rattle.roc_server.specs.State.{ServerState}
+use Rattle.roc_step.specs.declared.kept_read.KeptRead.{KeptRead}
+use Rattle.roc_step.specs.declared.started.StartedGroup.{StartedGroup}
+use Rattle.roc_step.specs.Reads.{holds_up}
+use Rattle.roc_step.specs.State.{ServerState}
 use Rattle.roc_coord.specs.State.{CoordState}
 use Rattle.roc_readonly.specs.Round.{last_round}
 use Rattle.roc_readonly.specs.declared.view.View.{View}

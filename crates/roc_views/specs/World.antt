@@ -10,8 +10,8 @@ use Rattle.roc_msg.specs.declared.msg.Envelope.{Envelope}
 use Rattle.roc_msg.specs.declared.outbox.Outgoing.{Outgoing}
 use Rattle.roc_plan.specs.Groups.{Plan}
 use Rattle.roc_rows.specs.Versions.{Counts, unwritten}
-use Rattle.roc_server.specs.State.{ServerState, ServerStep, Viewing}
-use Rattle.roc_server.specs.Reads.{ReadStep}
+use Rattle.roc_step.specs.State.{ServerState, ServerStep, Viewing}
+use Rattle.roc_step.specs.Reads.{ReadStep}
 use Rattle.roc_coord.specs.State.{CoordState}
 use Rattle.roc_audit.specs.declared.entry.Entry.{Entry}
 use Rattle.roc_audit.specs.Order.{noted}

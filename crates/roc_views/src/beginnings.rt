@@ -14,8 +14,8 @@ ghost use Rattle.roc_depgraph.specs.Deps.{IsDecided};
 ghost use Rattle.roc_msg.specs.declared.msg.Envelope.{Envelope};
 ghost use Rattle.roc_msg.specs.declared.reason.Reason.{Reason};
 ghost use Rattle.roc_msg.specs.declared.reason.Reason.TheVariants as reason;
-ghost use Rattle.roc_server.specs.State.{ServerState};
-ghost use Rattle.roc_server.specs.declared.started.StartedGroup.{StartedGroup};
+ghost use Rattle.roc_step.specs.State.{ServerState};
+ghost use Rattle.roc_step.specs.declared.started.StartedGroup.{StartedGroup};
 ghost use Rattle.roc_coord.specs.State.{CoordState};
 ghost use Rattle.roc_audit.specs.declared.entry.Entry.TheVariants.{Submitted, Answered};
 ghost use Rattle.roc_audit.specs.History.{WasSubmitted, WasAnswered, IsToldOnce};
@@ -52,7 +52,7 @@ use roc_protocol::beginnings::{
     nothing_is_refused as nothing_is_refused_beside, order_is_serial, quiet_is_answered,
 };
 use roc_protocol::laws::machine_laws;
-use roc_server::laws::{read_step_is_one, step_is_one as server_step_is_one};
+use roc_step::laws::{read_step_is_one, step_is_one as server_step_is_one};
 
 /// The first world is that of a beginning: so what holds of runs from any beginning holds of those from there.
 pub fn first_worlds_begin()

@@ -6,8 +6,8 @@ ghost use Rattle.roc_plan.specs.Accepted.{IsAccepted};
 ghost use Rattle.roc_audit.specs.declared.entry.Entry.TheVariants.{Submitted, Answered};
 ghost use Rattle.roc_law_plans.specs.SmallPlans.{smallest, observed};
 ghost use Rattle.roc_law_log.specs.Invariants.{Continues};
-ghost use Rattle.roc_server.specs.Forgets.{is_over};
-ghost use Rattle.roc_server.specs.State.{ServerState};
+ghost use Rattle.roc_step.specs.Forgets.{is_over};
+ghost use Rattle.roc_step.specs.State.{ServerState};
 ghost use Rattle.roc_coord.specs.State.{CoordState};
 ghost use Rattle.roc_coord.specs.Submit.{most_transactions, most_pending};
 ghost use Rattle.roc_protocol.specs.declared.event.Event.{Event};
@@ -26,7 +26,7 @@ use crate::beginnings::first_worlds_begin;
 use crate::beside::forgotten_is_answered;
 use roc_component::laws::{order_exists, order_is_one};
 use roc_law_plans::laws::small_plans_are_accepted;
-use roc_server::laws::{read_step_is_one, step_is_one as server_step_is_one};
+use roc_step::laws::{read_step_is_one, step_is_one as server_step_is_one};
 
 /// What comes of an event in a world is one: what is seen, what is newly decided, and the world after it.
 pub fn step_is_one()

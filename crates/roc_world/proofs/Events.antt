@@ -14,9 +14,9 @@ use Rattle.roc_msg.specs.Outbox.{Collected}
 use Rattle.roc_plan.specs.Groups.{Plan, is_view_of}
 use Rattle.roc_readonly.specs.Round.{first_round}
 use Rattle.roc_coord.specs.Submit as submit
-use Rattle.roc_server.specs.declared.handled.Handled.{Handled as ServerHandled}
-use Rattle.roc_server.specs.State.{answered, ServerState, Viewing}
-use Rattle.roc_server.specs.Step as server
+use Rattle.roc_step.specs.declared.handled.Handled.{Handled as ServerHandled}
+use Rattle.roc_step.specs.State.{answered, ServerState, Viewing}
+use Rattle.roc_step.specs.Step as server
 use Rattle.roc_coord.specs.declared.handled.Handled.{Handled as CoordHandled}
 use Rattle.roc_coord.specs.declared.handled.SubmitFault.{SubmitFault}
 use Rattle.roc_coord.specs.declared.handled.SubmitFault.TheVariants as fault

@@ -3,8 +3,8 @@ use Rattle.std.proofs.Common.{◌≡◌, ℕ, ◌+◌, ◌++◌, List, [], ◌�
 use Rattle.std.proofs.lemmas.List.FromFn.{map-range_with_len_more}
 use Rattle.std.specs.List.{range_with_len}
 use Rattle.roc_plan.specs.Groups.{Plan}
-use Rattle.roc_server.specs.First.{first_server}
-use Rattle.roc_server.specs.Reads.{first_viewing}
+use Rattle.roc_step.specs.First.{first_server}
+use Rattle.roc_step.specs.Reads.{first_viewing}
 use Rattle.roc_coord.specs.State.{first_coord}
 use Rattle.roc_protocol.specs.Beginnings as protocol
 use Rattle.roc_views.specs.World.{first_beginning, begun_viewing, first_world}

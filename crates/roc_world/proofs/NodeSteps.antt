@@ -7,10 +7,10 @@ use Rattle.roc_sequence.proofs.Holds.{all_at}
 use Rattle.roc_msg.specs.declared.msg.Msg.{Msg}
 use Rattle.roc_msg.specs.Outbox.{Collected, HasSent}
 use Rattle.roc_plan.specs.Groups.{Plan}
-use Rattle.roc_server.specs.declared.handled.Handled.{Handled}
-use Rattle.roc_server.specs.Reads.{AnswersReads, ReadStep}
-use Rattle.roc_server.specs.State.{ServerStep}
-use Rattle.roc_server.specs.Step.{Handles, Shows, tick_sends}
+use Rattle.roc_step.specs.declared.handled.Handled.{Handled}
+use Rattle.roc_step.specs.Reads.{AnswersReads, ReadStep}
+use Rattle.roc_step.specs.State.{ServerStep}
+use Rattle.roc_step.specs.Step.{Handles, Shows, tick_sends}
 use Rattle.roc_base.specs.declared.id.TxnId.{TxnId}
 use Rattle.roc_coord.specs.declared.handled.Handled.{Handled as CoordHandled}
 use Rattle.roc_coord.specs.declared.handled.SubmitFault.{SubmitFault}

@@ -2,11 +2,11 @@
 ghost use Rattle.std.specs.Prelude.{◌≡◌, IfOk, OnOk};
 ghost use Rattle.roc_msg.specs.Outbox.{HasSent};
 ghost use Rattle.roc_rows.specs.Store.{entries};
-ghost use Rattle.roc_server.specs.First.{first_server};
-ghost use Rattle.roc_server.specs.Fits.{AreReadsOf, ServerFits};
-ghost use Rattle.roc_server.specs.Reads.{first_viewing, AnswersReads, ReadStep};
-ghost use Rattle.roc_server.specs.State.{ServerStep};
-ghost use Rattle.roc_server.specs.Step.{Handles, Shows, tick_sends};
+ghost use Rattle.roc_step.specs.First.{first_server};
+ghost use Rattle.roc_step.specs.Fits.{AreReadsOf, ServerFits};
+ghost use Rattle.roc_step.specs.Reads.{first_viewing, AnswersReads, ReadStep};
+ghost use Rattle.roc_step.specs.State.{ServerStep};
+ghost use Rattle.roc_step.specs.Step.{Handles, Shows, tick_sends};
 
 use roc_base::{NoMemory, Shard};
 use roc_msg::{Msg, NodeFault, Outbox};
@@ -25,7 +25,7 @@ pub(crate) struct IdleServer {
 impl Model for IdleServer {
     ghost use Rattle.std.specs.Prelude.{◌≡◌, None};
     ghost use Rattle.std.specs.Coded.{codes};
-    ghost use Rattle.roc_server.specs.Codes.{coded_state, coded_viewing};
+    ghost use Rattle.roc_step.specs.Codes.{coded_state, coded_viewing};
     ghost use Rattle.roc_world.specs.Inner.Nodes.{Idle};
 
     ghost Value = { Idle };

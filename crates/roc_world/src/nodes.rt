@@ -1,9 +1,9 @@
 //! The servers and the coordinators, of which one takes what comes.
 ghost use Rattle.std.specs.Prelude.{◌≡◌, ◌<◌, length, map, IfOk, OnOk};
 ghost use Rattle.std.specs.List.{AllByRecursion, range_with_len};
-ghost use Rattle.roc_server.specs.First.{first_server};
-ghost use Rattle.roc_server.specs.Fits.{AreReadsOf, ServerFits};
-ghost use Rattle.roc_server.specs.Reads.{first_viewing};
+ghost use Rattle.roc_step.specs.First.{first_server};
+ghost use Rattle.roc_step.specs.Fits.{AreReadsOf, ServerFits};
+ghost use Rattle.roc_step.specs.Reads.{first_viewing};
 ghost use Rattle.roc_coord.specs.State.{first_coord};
 ghost use Rattle.roc_coord.specs.Fits.{CoordFits};
 ghost use Rattle.roc_coord.specs.Submit.{UnlessNoMemory};

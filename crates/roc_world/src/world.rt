@@ -35,7 +35,7 @@ pub struct World {
 
 impl Model for World {
     ghost use Rattle.std.specs.Coded.{codes};
-    ghost use Rattle.roc_server.specs.Codes.{coded_state, coded_viewing};
+    ghost use Rattle.roc_step.specs.Codes.{coded_state, coded_viewing};
     ghost use Rattle.roc_views.specs.World.{World};
 
     ghost Value = { World };

@@ -6,7 +6,7 @@ use Rattle.roc_depgraph.specs.declared.known.KnownList.{KnownList}
 use Rattle.roc_depgraph.specs.Deps.{list_of, IsKnown, IsDecided}
 use Rattle.roc_await.specs.declared.lack.Lack.{Lack}
 use Rattle.roc_await.specs.Lacks.{IsLack}
-use Rattle.roc_await.specs.Learning.{AreLearnable}
+use Rattle.roc_step.specs.Learning.{AreLearnable}
 
 -- the lacks of what is known and was not decided before: nothing is missing where it is decided by now
 pub record AreLacksSince (before known : List KnownList) (lacks : List Lack) : Type 0 where

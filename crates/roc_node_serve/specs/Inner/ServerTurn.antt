@@ -6,8 +6,8 @@ use Rattle.roc_io.specs.Packet.{Packet}
 use Rattle.roc_io.specs.Observed.{Adds, AddsFront}
 use Rattle.roc_msg.specs.declared.outbox.Outgoing.{Outgoing}
 use Rattle.roc_plan.specs.Groups.{Plan}
-use Rattle.roc_server.specs.First.{first_server}
-use Rattle.roc_server.specs.Reads.{first_viewing}
+use Rattle.roc_step.specs.First.{first_server}
+use Rattle.roc_step.specs.Reads.{first_viewing}
 use Rattle.roc_node.specs.Posting.{none_heard}
 use Rattle.roc_io.specs.Call.{LinkView}
 use Rattle.roc_node.specs.Moves.{Moves}

@@ -18,19 +18,19 @@ use Rattle.roc_group.specs.Accesses.{do_write}
 use Rattle.roc_group.specs.GroupRun.{group_run, group_uses}
 use Rattle.roc_rows.specs.Store.{Store}
 use Rattle.roc_rows.specs.Versions.{Counts, version}
-use Rattle.roc_server.specs.declared.handled.Handled.{Handled}
-use Rattle.roc_server.specs.declared.handled.Handled.TheVariants.{Done}
-use Rattle.roc_server.specs.declared.kept_read.KeptRead.{KeptRead}
+use Rattle.roc_step.specs.declared.handled.Handled.{Handled}
+use Rattle.roc_step.specs.declared.handled.Handled.TheVariants.{Done}
+use Rattle.roc_step.specs.declared.kept_read.KeptRead.{KeptRead}
 use Rattle.roc_server.specs.declared.planned.Change.{Change}
 use Rattle.roc_server.specs.declared.planned.Change.TheVariants.{Group, Lists, Settled}
 use Rattle.roc_server.specs.declared.server_data.ServerData.{ServerData}
-use Rattle.roc_server.specs.declared.started.StartedGroup.{StartedGroup}
-use Rattle.roc_server.specs.Fits.{IsReadOf}
-use Rattle.roc_server.specs.Reads.{answering, is_taken, put_read, read_call, reads_with, with_accesses, with_read, ReadStep}
-use Rattle.roc_server.specs.State.{ServerState, Viewing}
+use Rattle.roc_step.specs.declared.started.StartedGroup.{StartedGroup}
+use Rattle.roc_step.specs.Fits.{IsReadOf}
+use Rattle.roc_step.specs.Reads.{answering, is_taken, put_read, read_call, reads_with, with_accesses, with_read, ReadStep}
+use Rattle.roc_step.specs.State.{ServerState, Viewing}
 use Rattle.roc_server.specs.Inner.Held.{viewing_then}
 use Rattle.roc_server.specs.Inner.Planned.{after}
-use Rattle.roc_server_lists.specs.New.{AreDecided}
+use Rattle.roc_step.specs.New.{AreDecided}
 
 -- ---- the read that a message brings
 

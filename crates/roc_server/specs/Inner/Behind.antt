@@ -15,7 +15,7 @@ use Rattle.roc_server.specs.declared.behind.More.{More}
 use Rattle.roc_server.specs.declared.behind.NextLinks.{NextLinks}
 use Rattle.roc_server.specs.declared.behind.NextLinks.TheVariants.{Anew, With}
 use Rattle.roc_server.specs.declared.server_data.ServerData.{ServerData}
-use Rattle.roc_server.specs.Forgets.{forget}
+use Rattle.roc_step.specs.Forgets.{forget}
 use Rattle.roc_server.specs.Inner.Left.{rows_behind, IsOver}
 use Rattle.roc_server.specs.Inner.ServerData.{state_of, IsConsistent, IsRight}
 

@@ -4,7 +4,7 @@ use Rattle.roc_base.specs.declared.node.Shard.{Shard}
 use Rattle.roc_server_ancestors.specs.Least.{AreRows, HeldRows}
 use Rattle.roc_server.specs.declared.left.Left.{Left}
 use Rattle.roc_server.specs.declared.server_data.ServerData.{ServerData}
-use Rattle.roc_server.specs.Forgets.{forget}
+use Rattle.roc_step.specs.Forgets.{forget}
 use Rattle.roc_server.specs.Inner.Left.{rows_behind, AreRowsBehind, IsOver}
 use Rattle.roc_server.specs.Inner.ServerData.{state_of, IsConsistent, IsRight}
 

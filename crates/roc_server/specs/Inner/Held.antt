@@ -8,13 +8,14 @@ use Rattle.roc_msg.specs.Outbox.{Collected}
 use Rattle.roc_plan.specs.Groups.{Plan}
 use Rattle.roc_server.specs.declared.ahead.Ahead.{Ahead}
 use Rattle.roc_server.specs.declared.ahead.Outcome.{Outcome}
-use Rattle.roc_server.specs.declared.handled.Handled.{Handled}
-use Rattle.roc_server.specs.declared.kept_read.KeptRead.{KeptRead}
+use Rattle.roc_step.specs.declared.handled.Handled.{Handled}
+use Rattle.roc_step.specs.declared.kept_read.KeptRead.{KeptRead}
 use Rattle.roc_server.specs.declared.server_data.ServerData.{ServerData}
 use Rattle.roc_server.specs.declared.views.Views.{Views}
-use Rattle.roc_server.specs.Reads.{is_taken, with_accesses, AnswersReads, ReadStep}
-use Rattle.roc_server.specs.State.{MadeAhead, ServerState, ServerStep, Serving, Viewing}
-use Rattle.roc_server.specs.Step.{Handles, Shows}
+use Rattle.roc_step.specs.Reads.{is_taken, with_accesses, AnswersReads, ReadStep}
+use Rattle.roc_server.specs.State.{MadeAhead, Serving}
+use Rattle.roc_step.specs.State.{ServerState, ServerStep, Viewing}
+use Rattle.roc_step.specs.Step.{Handles, Shows}
 use Rattle.roc_server.specs.Inner.Planned.{after, before, IsPlanned}
 use Rattle.roc_server.specs.Inner.ServerData.{state_of, IsConsistent}
 

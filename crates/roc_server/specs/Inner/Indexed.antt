@@ -15,9 +15,9 @@ use Rattle.roc_group.specs.Accesses.{do_conflict, do_write}
 use Rattle.roc_server_index.specs.declared.group_ref.GroupRef.{GroupRef}
 use Rattle.roc_server_index.specs.GroupRefs.{CellRefs, group_refs_at, spare_at, without}
 use Rattle.roc_plan.specs.Groups.{Plan, groups_of, is_immediate_of}
-use Rattle.roc_server.specs.declared.started.StartedGroup.{StartedGroup}
-use Rattle.roc_server.specs.Start.{uses_cell}
-use Rattle.roc_server.specs.State.{find_group}
+use Rattle.roc_step.specs.declared.started.StartedGroup.{StartedGroup}
+use Rattle.roc_step.specs.Start.{uses_cell}
+use Rattle.roc_step.specs.State.{find_group}
 
 abbrev pub group_ref_of : StartedGroup → GroupRef
 group_ref_of e = record { id = e.id; proc = e.proc; group = e.group }

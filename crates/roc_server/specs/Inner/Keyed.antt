@@ -4,8 +4,8 @@ use Rattle.std.specs.Map.{keys_of, values_of}
 use Rattle.roc_sequence.specs.Lists.{Has}
 use Rattle.roc_base.specs.declared.id.TxnId.{TxnId}
 use Rattle.roc_server.specs.declared.group_key.GroupKey.{GroupKey}
-use Rattle.roc_server.specs.declared.started.StartedGroup.{StartedGroup}
-use Rattle.roc_server.specs.State.{is_group}
+use Rattle.roc_step.specs.declared.started.StartedGroup.{StartedGroup}
+use Rattle.roc_step.specs.State.{is_group}
 
 -- groups in the order of their arrival, and how many more find room
 pub record Entered : Type 0 where

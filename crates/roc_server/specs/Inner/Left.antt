@@ -6,9 +6,9 @@ use Rattle.roc_base.specs.TxnId.{is_txn}
 use Rattle.roc_depgraph.specs.declared.known.KnownList.{KnownList}
 use Rattle.roc_depgraph.specs.Closure.{IsRisingListOf}
 use Rattle.roc_server_ancestors.specs.Least.{AreRows, HeldRows}
-use Rattle.roc_server_lists.specs.Links.{without_links}
+use Rattle.roc_step.specs.Links.{without_links}
 use Rattle.roc_server.specs.declared.left.Left.{Left}
-use Rattle.roc_server.specs.Forgets.{over}
+use Rattle.roc_step.specs.Forgets.{over}
 
 -- the components that were taken, and how many more find room
 pub record TakenComponents : Type 0 where

@@ -7,12 +7,12 @@ use Rattle.roc_base.specs.declared.id.TxnId.{TxnId}
 use Rattle.roc_base.specs.TxnId.{is_txn}
 use Rattle.roc_base.specs.declared.node.Shard.{Shard}
 use Rattle.roc_await.specs.Lacks.{AreLacks}
-use Rattle.roc_await.specs.Waits.{with_asker, without_asked}
+use Rattle.roc_step.specs.Waits.{with_asker, without_asked}
 use Rattle.roc_depgraph.specs.Deps.{is_known}
 use Rattle.roc_rows.specs.Held.{Held}
-use Rattle.roc_server_lists.specs.Asking.{waiting_after}
-use Rattle.roc_server_lists.specs.Links.{AreLinksOf}
-use Rattle.roc_server_lists.specs.New.{AreNewTaken}
+use Rattle.roc_step.specs.Asking.{waiting_after}
+use Rattle.roc_step.specs.Links.{AreLinksOf}
+use Rattle.roc_step.specs.New.{AreNewTaken}
 use Rattle.roc_server.specs.declared.planned.Change.{Change}
 use Rattle.roc_server.specs.declared.planned.Change.TheVariants.{Nothing, Asker, Group, Lists, Marks, Settled}
 use Rattle.roc_server.specs.declared.planned.Heard.{Heard}
@@ -21,11 +21,11 @@ use Rattle.roc_server.specs.declared.planned.Settlement.{Settlement}
 use Rattle.roc_server.specs.declared.runs.Earlier.{Earlier}
 use Rattle.roc_server.specs.declared.settled.Settling.{Settling}
 use Rattle.roc_server.specs.declared.server_data.ServerData.{ServerData}
-use Rattle.roc_server.specs.declared.started.StartedGroup.{StartedGroup}
-use Rattle.roc_server.specs.Below.{is_ended}
-use Rattle.roc_server.specs.Forgets.{forget}
-use Rattle.roc_server.specs.Lists.{missing_from}
-use Rattle.roc_server.specs.State.{find_group, ServerState}
+use Rattle.roc_step.specs.declared.started.StartedGroup.{StartedGroup}
+use Rattle.roc_step.specs.Below.{is_ended}
+use Rattle.roc_step.specs.Forgets.{forget}
+use Rattle.roc_step.specs.Lists.{missing_from}
+use Rattle.roc_step.specs.State.{find_group, ServerState}
 use Rattle.roc_server.specs.Inner.Indexed.{HasRoomFor}
 use Rattle.roc_server.specs.Inner.Left.{AreRowsBehind, IsOver}
 use Rattle.roc_server.specs.Inner.Runs.{restored}

@@ -4,8 +4,8 @@ use Rattle.roc_plan.specs.Groups.{Plan, is_immediate_of}
 use Rattle.roc_group.specs.GroupRun.{group_run}
 use Rattle.roc_rows.specs.Store.{Store}
 use Rattle.roc_server.specs.declared.runs.Earlier.{Earlier}
-use Rattle.roc_server.specs.declared.started.StartedGroup.{StartedGroup}
-use Rattle.roc_server.specs.Runs.{group_call}
+use Rattle.roc_step.specs.declared.started.StartedGroup.{StartedGroup}
+use Rattle.roc_step.specs.Runs.{group_call}
 
 -- those of the groups that are buffered
 abbrev pub buffered : Plan → List StartedGroup → List StartedGroup

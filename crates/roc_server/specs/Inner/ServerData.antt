@@ -9,18 +9,18 @@ use Rattle.roc_base.specs.declared.node.Shard.{Shard}
 use Rattle.roc_base.specs.TxnId.{is_txn, txn_cmp}
 use Rattle.roc_base.specs.Edge.{Dependency}
 use Rattle.roc_depgraph.specs.Deps.{is_known, IsDecided}
-use Rattle.roc_await.specs.Waits.{was_asked_for}
+use Rattle.roc_step.specs.Waits.{was_asked_for}
 use Rattle.roc_server_ancestors.specs.Least.{AreRows}
 use Rattle.roc_await.specs.Lacks.{AreLacks}
 use Rattle.roc_group.specs.GroupRun.{GroupCall, call}
 use Rattle.roc_rows.specs.Store.{Store}
 use Rattle.roc_server.specs.declared.server_data.ServerData.{ServerData}
-use Rattle.roc_server.specs.declared.started.StartedGroup.{StartedGroup}
+use Rattle.roc_step.specs.declared.started.StartedGroup.{StartedGroup}
 use Rattle.roc_server.specs.declared.starts.Request.{Request}
-use Rattle.roc_server_lists.specs.Links.{all_entries, AreLinksOf}
-use Rattle.roc_server.specs.Below.{is_ended}
-use Rattle.roc_server.specs.Forgets.{over}
-use Rattle.roc_server.specs.State.{is_group, is_here, unrun, ServerState}
+use Rattle.roc_step.specs.Links.{all_entries, AreLinksOf}
+use Rattle.roc_step.specs.Below.{is_ended}
+use Rattle.roc_step.specs.Forgets.{over}
+use Rattle.roc_step.specs.State.{is_group, is_here, unrun, ServerState}
 use Rattle.roc_server.specs.Inner.Indexed.{IsIndexOf}
 
 abbrev pub state_of : Shard → ServerData → ServerState

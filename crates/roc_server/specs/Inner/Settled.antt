@@ -12,20 +12,20 @@ use Rattle.roc_depgraph.specs.Deps.{is_known, IsDecided, IsKnown}
 use Rattle.roc_msg.specs.declared.msg.Msg.TheVariants as msg
 use Rattle.roc_msg.specs.Outbox.{Collected}
 use Rattle.roc_plan.specs.Groups.{Plan}
-use Rattle.roc_server.specs.declared.handled.Handled.{Handled}
+use Rattle.roc_step.specs.declared.handled.Handled.{Handled}
 use Rattle.roc_server.specs.declared.planned.Change.{Change}
 use Rattle.roc_server.specs.declared.planned.Change.TheVariants.{Marks}
 use Rattle.roc_server.specs.declared.settled.Deciding.{Deciding}
 use Rattle.roc_server.specs.declared.settled.Settling.{Settling}
 use Rattle.roc_server.specs.declared.server_data.ServerData.{ServerData}
-use Rattle.roc_server.specs.Below.{is_ended, raised}
-use Rattle.roc_server.specs.Lists.{after_settled}
-use Rattle.roc_server.specs.Runs.{accesses_of, all_buffered, commitok, take_all}
-use Rattle.roc_server.specs.State.{is_here, ServerState}
-use Rattle.roc_server.specs.Step.{links_after}
+use Rattle.roc_step.specs.Below.{is_ended, raised}
+use Rattle.roc_step.specs.Lists.{after_settled}
+use Rattle.roc_step.specs.Runs.{accesses_of, all_buffered, commitok, take_all}
+use Rattle.roc_step.specs.State.{is_here, ServerState}
+use Rattle.roc_step.specs.Step.{links_after}
 use Rattle.roc_server.specs.Inner.Shown.{ShowsStep}
-use Rattle.roc_server_lists.specs.Links.{without_links}
-use Rattle.roc_server_lists.specs.New.{AreNewTaken}
+use Rattle.roc_step.specs.Links.{without_links}
+use Rattle.roc_step.specs.New.{AreNewTaken}
 use Rattle.roc_server.specs.Inner.Behind.{count_of_rows, IsBehind}
 use Rattle.roc_server.specs.Inner.Left.{AreRowsBehind, IsOver}
 use Rattle.roc_server.specs.Inner.ServerData.{state_of, holding, AreSameGroups}

@@ -8,16 +8,16 @@ use Rattle.roc_depgraph.specs.Deps.{is_known}
 use Rattle.roc_msg.specs.declared.reason.Reason.{Reason}
 use Rattle.roc_msg.specs.declared.reason.Reason.TheVariants.{BadProc, BadGroup, BadInputs, NotHere, Late, Differs}
 use Rattle.roc_plan.specs.Groups.{Plan, groups_of, is_immediate_of, shard_of, group_place}
-use Rattle.roc_server.specs.declared.handled.Handled.{Handled}
+use Rattle.roc_step.specs.declared.handled.Handled.{Handled}
 use Rattle.roc_server.specs.declared.server_data.ServerData.{ServerData}
-use Rattle.roc_server.specs.declared.started.StartedGroup.{StartedGroup}
+use Rattle.roc_step.specs.declared.started.StartedGroup.{StartedGroup}
 use Rattle.roc_server.specs.Inner.ServerData.{state_of}
 use Rattle.roc_server_index.specs.GroupRefs.{HaveSameRefs}
-use Rattle.roc_server_lists.specs.New.{AreLedTo}
-use Rattle.roc_server.specs.Start.{has_procedure, has_counts, differs, is_immediate_group, edges_for, new_group, start_new, startok_of, after_start}
-use Rattle.roc_server.specs.Runs.{accesses_of}
-use Rattle.roc_server.specs.State.{find_group, ServerState}
-use Rattle.roc_server.specs.Step.{edges_of_new}
+use Rattle.roc_step.specs.New.{AreLedTo}
+use Rattle.roc_step.specs.Start.{has_procedure, has_counts, differs, is_immediate_group, edges_for, new_group, start_new, startok_of, after_start}
+use Rattle.roc_step.specs.Runs.{accesses_of}
+use Rattle.roc_step.specs.State.{find_group, ServerState}
+use Rattle.roc_step.specs.Step.{edges_of_new}
 use Rattle.roc_server.specs.Inner.Shown.{ShowsStep}
 
 -- the first of these reasons that holds

@@ -9,10 +9,10 @@ use Rattle.roc_base.specs.declared.id.TxnId.{TxnId}
 use Rattle.roc_base.specs.declared.node.Shard.{Shard}
 use Rattle.roc_base.specs.Edge.{Dependency}
 use Rattle.roc_base.specs.Edges.{united}
-use Rattle.roc_await.specs.declared.waits.Asker.{Asker}
-use Rattle.roc_await.specs.declared.waits.OpenFetch.{OpenFetch}
+use Rattle.roc_step.specs.declared.waits.Asker.{Asker}
+use Rattle.roc_step.specs.declared.waits.OpenFetch.{OpenFetch}
 use Rattle.roc_await.specs.Lacks.{AreLacks}
-use Rattle.roc_await.specs.Learning.{AreLearnable}
+use Rattle.roc_step.specs.Learning.{AreLearnable}
 use Rattle.roc_server_ancestors.specs.Least.{AreAllRight, AreRows, AreSameRows}
 use Rattle.roc_depgraph.specs.declared.known.KnownList.{KnownList}
 use Rattle.roc_depgraph.specs.Closure.{IsRisingListOf}
@@ -23,24 +23,24 @@ use Rattle.roc_msg.specs.Outbox.{Collected}
 use Rattle.roc_plan.specs.Groups.{Plan}
 use Rattle.roc_rows.specs.Store.{Store}
 use Rattle.roc_server.specs.declared.found.Found.{Found}
-use Rattle.roc_server.specs.declared.handled.Handled.{Handled}
+use Rattle.roc_step.specs.declared.handled.Handled.{Handled}
 use Rattle.roc_server.specs.declared.learning.Named.{Named}
 use Rattle.roc_server.specs.declared.left.Left.{Left}
 use Rattle.roc_server.specs.declared.server_data.ServerData.{ServerData}
-use Rattle.roc_server.specs.declared.started.StartedGroup.{StartedGroup}
-use Rattle.roc_server.specs.Below.{is_ended}
-use Rattle.roc_server.specs.Fits.{AreGroupsOf}
-use Rattle.roc_server.specs.Forgets.{forgetting, over}
-use Rattle.roc_server.specs.Runs.{accesses_of, all_buffered, commitok, take_all}
-use Rattle.roc_server_lists.specs.New.{AreLearntLast, AreLinkedLast, AreNewTaken}
-use Rattle.roc_server_lists.specs.Asking.{asked_of, fetch_from, knowns_for, open_after, waiting_after}
-use Rattle.roc_server_lists.specs.Links.{all_entries, without_links}
-use Rattle.roc_server.specs.Lists.{is_done, links_of, is_missing, missing_after, lists_after, taught, commit_refusal, after_commit, known_refusal, after_known}
+use Rattle.roc_step.specs.declared.started.StartedGroup.{StartedGroup}
+use Rattle.roc_step.specs.Below.{is_ended}
+use Rattle.roc_step.specs.Fits.{AreGroupsOf}
+use Rattle.roc_step.specs.Forgets.{forgetting, over}
+use Rattle.roc_step.specs.Runs.{accesses_of, all_buffered, commitok, take_all}
+use Rattle.roc_step.specs.New.{AreLearntLast, AreLinkedLast, AreNewTaken}
+use Rattle.roc_step.specs.Asking.{asked_of, fetch_from, knowns_for, open_after, waiting_after}
+use Rattle.roc_step.specs.Links.{all_entries, without_links}
+use Rattle.roc_step.specs.Lists.{is_done, links_of, is_missing, missing_after, lists_after, taught, commit_refusal, after_commit, known_refusal, after_known}
 use Rattle.roc_server.specs.Inner.Indexed.{AreOut, IsIndexOf}
 use Rattle.roc_server.specs.Inner.Left.{followed_behind, AreRowsBehind}
 use Rattle.roc_server.specs.Inner.ServerData.{state_of, holding, is_same_group, AreSameGroups}
-use Rattle.roc_server.specs.State.{is_here, ServerState, ServerStep}
-use Rattle.roc_server.specs.Step.{links_after}
+use Rattle.roc_step.specs.State.{is_here, ServerState, ServerStep}
+use Rattle.roc_step.specs.Step.{links_after}
 use Rattle.roc_server.specs.Inner.Shown.{ShowsStep}
 
 -- ---- what is found

@@ -1,6 +1,6 @@
 use Rattle.std.proofs.Common.{rules}
 use Rattle.std.proofs.lemmas.Fn.{filter_same}
-use Rattle.roc_await.specs.Waits.{is_asked_before}
+use Rattle.roc_step.specs.Waits.{is_asked_before}
 use Rattle.roc_await.specs.Inner.Apart.{is_apart}
 use Rattle.roc_await.proofs.waits.keep_other_asked.Goals as goal
 

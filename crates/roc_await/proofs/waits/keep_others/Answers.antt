@@ -2,7 +2,7 @@ use Rattle.std.proofs.Common.{rules, not}
 use Rattle.std.proofs.lemmas.Fn.{filter_same}
 use Rattle.roc_sequence.specs.Places.{is_listed}
 use Rattle.roc_base.specs.TxnId.{is_txn}
-use Rattle.roc_await.specs.declared.waits.OpenFetch.{OpenFetch}
+use Rattle.roc_step.specs.declared.waits.OpenFetch.{OpenFetch}
 use Rattle.roc_await.proofs.waits.keep_others.Goals as goal
 
 pub returns-clause-items : goal.returns-clause-items

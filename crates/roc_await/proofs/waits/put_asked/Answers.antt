@@ -1,6 +1,6 @@
 use Rattle.std.proofs.Common.{◌≡◌, ◌≤◌, ◌∙◌, List, length, filter, insert, ap, arith}
-use Rattle.roc_await.specs.declared.waits.OpenFetch.{OpenFetch}
-use Rattle.roc_await.specs.Waits.{is_asked_before}
+use Rattle.roc_step.specs.declared.waits.OpenFetch.{OpenFetch}
+use Rattle.roc_step.specs.Waits.{is_asked_before}
 use Rattle.roc_await.proofs.PutInPlace.{put_in_place, place_within}
 use Rattle.roc_await.proofs.Orders.{asked_order}
 use Rattle.roc_await.proofs.waits.put_asked.Goals as goal

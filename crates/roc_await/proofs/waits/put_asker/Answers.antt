@@ -1,6 +1,6 @@
 use Rattle.std.proofs.Common.{◌≡◌, ◌≤◌, ◌∙◌, List, length, filter, insert, ap, arith}
-use Rattle.roc_await.specs.declared.waits.Asker.{Asker}
-use Rattle.roc_await.specs.Waits.{is_asker_before}
+use Rattle.roc_step.specs.declared.waits.Asker.{Asker}
+use Rattle.roc_step.specs.Waits.{is_asker_before}
 use Rattle.roc_await.proofs.PutInPlace.{put_in_place, place_within}
 use Rattle.roc_await.proofs.Orders.{asker_order}
 use Rattle.roc_await.proofs.waits.put_asker.Goals as goal

@@ -1,6 +1,6 @@
 use Rattle.std.proofs.Common.{Some, ap, sym, ◌∙◌}
 use Rattle.std.specs.Prelude.{filter}
-use Rattle.roc_server.specs.State.{Viewing}
+use Rattle.roc_step.specs.State.{Viewing}
 use Rattle.roc_law_nodes.specs.Turns.{is_for_core}
 use Rattle.roc_law_nodes.proofs.WorldFolds.{server_fold, coord_fold}
 use Rattle.roc_law_nodes.proofs.OneFold.{one_server_fold, one_coord_fold}

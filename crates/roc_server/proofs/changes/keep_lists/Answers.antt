@@ -1,5 +1,5 @@
 use Rattle.std.proofs.Common.{refl, ap, subst, ◌∙◌}
-use Rattle.roc_server.specs.Forgets.{forget}
+use Rattle.roc_step.specs.Forgets.{forget}
 use Rattle.roc_server.specs.Inner.Planned.{unlearnt}
 use Rattle.roc_server.specs.Inner.Taught.{KeepsFound}
 use Rattle.roc_server.proofs.KeptLists.{is_over, lists_kept, refs_ran}

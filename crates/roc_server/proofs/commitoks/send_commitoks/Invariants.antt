@@ -1,7 +1,7 @@
 use Rattle.std.proofs.Common.{map, filter, take}
 use Rattle.roc_msg.specs.Outbox.{HasSent}
-use Rattle.roc_server.specs.Runs.{commitok}
-use Rattle.roc_server.specs.State.{is_here}
+use Rattle.roc_step.specs.Runs.{commitok}
+use Rattle.roc_step.specs.State.{is_here}
 use Rattle.roc_server.proofs.commitoks.send_commitoks.Given as goal
 
 -- those so far that have a group here were answered

@@ -1,6 +1,6 @@
 use Rattle.std.proofs.Common.{sym, subst, ◌∙◌}
 use Rattle.std.proofs.lemmas.Result.{IfOk-weaker}
-use Rattle.roc_await.specs.Learning.{AreLearnable}
+use Rattle.roc_step.specs.Learning.{AreLearnable}
 use Rattle.roc_server.specs.declared.planned.Change.TheVariants.{Nothing}
 use Rattle.roc_server.specs.Inner.Planned.{after}
 use Rattle.roc_server.specs.Inner.Taught.{Commits}

@@ -3,9 +3,9 @@ use Rattle.std.specs.List.{flat_map}
 use Rattle.roc_sequence.specs.Places.{is_listed, IsListed}
 use Rattle.roc_base.specs.declared.id.TxnId.{TxnId}
 use Rattle.roc_base.specs.TxnId.{is_txn}
-use Rattle.roc_server_lists.specs.New.{AreNewTaken}
+use Rattle.roc_step.specs.New.{AreNewTaken}
 use Rattle.roc_server.specs.Inner.Left.{IsOver}
-use Rattle.roc_server.specs.Lists.{is_missing}
+use Rattle.roc_step.specs.Lists.{is_missing}
 use Rattle.roc_server.specs.Inner.ServerData.{state_of}
 use Rattle.roc_server.specs.Inner.Taught.{asked_by}
 use Rattle.roc_server.proofs.NewlyDecided.{chosen, rows_closed, rows_now}

@@ -3,7 +3,7 @@ use Rattle.roc_sequence.specs.Places.{IsListed}
 use Rattle.roc_base.specs.declared.id.TxnId.{TxnId}
 use Rattle.roc_base.specs.TxnId.{is_txn}
 use Rattle.roc_depgraph.specs.Closure.{IsRisingListOf}
-use Rattle.roc_server_lists.specs.Asking.{open_after, waiting_after}
+use Rattle.roc_step.specs.Asking.{open_after, waiting_after}
 use Rattle.roc_server.specs.Inner.Indexed.{AreOut}
 use Rattle.roc_server.proofs.TaughtParts.{on_done}
 use Rattle.roc_server.proofs.found.keep_found.Goals as goal

@@ -1,7 +1,7 @@
 use Rattle.std.proofs.Common.{sym}
 use Rattle.roc_base.specs.TxnId.{is_txn}
-use Rattle.roc_server.specs.Runs.{group_call}
-use Rattle.roc_server.specs.Fits.{IsCallOf}
+use Rattle.roc_step.specs.Runs.{group_call}
+use Rattle.roc_step.specs.Fits.{IsCallOf}
 use Rattle.roc_sequence.proofs.Found.{found_holds}
 use Rattle.roc_server.proofs.groups.count_of_groups.Goals as goal
 

@@ -1,8 +1,8 @@
 use Rattle.std.proofs.Common.{◌∙◌, ◌||◌, ◌==◌, ◌&&◌, not, false, sym, ap, slice_get, ◌<◌, arith}
 use Rattle.std.specs.Option.{option_and_then, option_map_or}
 use Rattle.roc_base.specs.Equality.{is_nums}
-use Rattle.roc_server.specs.declared.started.StartedGroup.{StartedGroup}
-use Rattle.roc_server.specs.State.{is_group}
+use Rattle.roc_step.specs.declared.started.StartedGroup.{StartedGroup}
+use Rattle.roc_step.specs.State.{is_group}
 use Rattle.roc_server.specs.Inner.Keyed.{AreBelow}
 use Rattle.roc_server.proofs.Placed.{found_by_place}
 use Rattle.roc_server.proofs.KeyedGroups.{any_none, any_more, any_all, any_found}

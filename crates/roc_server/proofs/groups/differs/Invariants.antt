@@ -1,7 +1,7 @@
 use Rattle.std.proofs.Common.{◌≡◌, ◌==◌, ◌&&◌, not, false}
 use Rattle.std.specs.List.{list_any}
 use Rattle.roc_base.specs.Equality.{is_nums}
-use Rattle.roc_server.specs.declared.started.StartedGroup.{StartedGroup}
+use Rattle.roc_step.specs.declared.started.StartedGroup.{StartedGroup}
 use Rattle.roc_server.proofs.KeyedGroups.{passes_up_to}
 use Rattle.roc_server.proofs.groups.differs.Given as goal
 

@@ -1,7 +1,7 @@
 use Rattle.std.proofs.Common.{slice_get, ap, ◌∙◌}
 use Rattle.std.specs.Option.{option_and_then}
 use Rattle.roc_server.proofs.Placed.{found_by_place}
-use Rattle.roc_server.specs.State.{is_group}
+use Rattle.roc_step.specs.State.{is_group}
 use Rattle.roc_server.proofs.groups.find_group.Goals as goal
 
 pub returns : goal.returns

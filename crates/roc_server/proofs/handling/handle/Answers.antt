@@ -3,7 +3,7 @@ use Rattle.std.proofs.lemmas.Result.{IfOk-weaker, on_err_weaker}
 use Rattle.roc_server.specs.Ahead.{needs_room}
 use Rattle.roc_server.specs.Inner.Held.{serving, viewing_of, IsServed}
 use Rattle.roc_server.specs.Inner.ServerData.{state_of}
-use Rattle.roc_server.specs.State.{ServerState}
+use Rattle.roc_step.specs.State.{ServerState}
 use Rattle.roc_server.proofs.AtOnce.{served_at_once}
 use Rattle.roc_server.proofs.MadeSteps.{groups_from, idle_fits, made_fits, made_step}
 use Rattle.roc_server.proofs.handling.handle.Goals as goal

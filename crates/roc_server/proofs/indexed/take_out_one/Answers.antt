@@ -2,8 +2,8 @@ use Rattle.std.proofs.Common.{◌∙◌, ◌||◌, if◌then◌else◌, false, s
 use Rattle.std.specs.List.{list_any}
 use Rattle.std.specs.Option.{option_and_then, option_map_or}
 use Rattle.roc_server_index.specs.GroupRefs.{group_refs_at, without}
-use Rattle.roc_server.specs.Start.{uses_cell}
-use Rattle.roc_server.specs.State.{is_group}
+use Rattle.roc_step.specs.Start.{uses_cell}
+use Rattle.roc_step.specs.State.{is_group}
 use Rattle.roc_server.specs.Inner.Keyed.{AreBelow}
 use Rattle.roc_server.proofs.IndexSteps.{out_more, out_of_all}
 use Rattle.roc_server.proofs.Placed.{found_by_place}

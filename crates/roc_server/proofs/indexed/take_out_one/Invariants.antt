@@ -1,5 +1,5 @@
 use Rattle.std.specs.List.{list_any}
-use Rattle.roc_server.specs.Start.{uses_cell}
+use Rattle.roc_step.specs.Start.{uses_cell}
 use Rattle.roc_server.specs.Inner.Indexed.{IsOutOf}
 use Rattle.roc_server.proofs.KeyedGroups.{passes_up_to}
 use Rattle.roc_server.proofs.indexed.take_out_one.Given as goal

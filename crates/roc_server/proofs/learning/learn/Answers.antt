@@ -1,8 +1,8 @@
 use Rattle.std.proofs.Common.{◌≡◌, ◌++◌, ◌∙◌, refl, sym, ap, subst}
 use Rattle.roc_server_lists.proofs.FollowedLinks.{links_ids}
-use Rattle.roc_server_lists.proofs.SameIds.{learnable_alike}
+use Rattle.roc_step.proofs.SameIds.{learnable_alike}
 use Rattle.roc_server.specs.declared.server_data.ServerData.{ServerData}
-use Rattle.roc_server.specs.Below.{is_ended}
+use Rattle.roc_step.specs.Below.{is_ended}
 use Rattle.roc_server.specs.Inner.ServerData.{state_of, IsSame}
 use Rattle.roc_server.specs.Inner.Taught.{FollowsNews}
 use Rattle.roc_server.proofs.learning.learn.Goals as goal

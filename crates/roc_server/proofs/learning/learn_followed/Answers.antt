@@ -5,10 +5,10 @@ use Rattle.roc_base.specs.declared.id.TxnId.{TxnId}
 use Rattle.roc_base.specs.Edge.{Dependency}
 use Rattle.roc_base.specs.TxnId.{is_txn, txn_cmp}
 use Rattle.roc_base.specs.Edges.{united}
-use Rattle.roc_server_lists.specs.Links.{all_entries, without_links}
-use Rattle.roc_server_lists.proofs.WithoutLinks.{all_without_alike}
-use Rattle.roc_server.specs.Lists.{is_done}
-use Rattle.roc_server.specs.State.{ServerState}
+use Rattle.roc_step.specs.Links.{all_entries, without_links}
+use Rattle.roc_step.proofs.WithoutLinks.{all_without_alike}
+use Rattle.roc_step.specs.Lists.{is_done}
+use Rattle.roc_step.specs.State.{ServerState}
 use Rattle.roc_server.specs.Inner.ServerData.{state_of}
 use Rattle.roc_server.proofs.DoneSteps.{done_rise, done_listed}
 use Rattle.roc_server.proofs.learning.learn_followed.Goals as goal

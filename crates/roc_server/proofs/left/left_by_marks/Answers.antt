@@ -1,7 +1,7 @@
 use Rattle.std.proofs.Common.{[], None, Some, sym, ◌∙◌}
 use Rattle.std.proofs.lemmas.List.{append-nil}
 use Rattle.roc_server_lists.proofs.FollowedLinks.{links_ids}
-use Rattle.roc_server.specs.Below.{is_ended}
+use Rattle.roc_step.specs.Below.{is_ended}
 use Rattle.roc_server.proofs.FoundSettled.{over_found}
 use Rattle.roc_server.proofs.left.left_by_marks.Goals as goal
 

@@ -7,7 +7,7 @@ use Rattle.roc_base.specs.Edges.{united}
 use Rattle.roc_group.specs.declared.access.Access.{Access}
 use Rattle.roc_server_index.specs.declared.group_ref.GroupRef.{GroupRef}
 use Rattle.roc_server_index.specs.GroupRefs.{group_refs_at}
-use Rattle.roc_server.specs.declared.started.StartedGroup.{StartedGroup}
+use Rattle.roc_step.specs.declared.started.StartedGroup.{StartedGroup}
 use Rattle.roc_server.specs.Inner.Indexed.{IsGroupRefWithin, is_looked_at}
 use Rattle.roc_server.proofs.Stands.{indexed_within}
 use Rattle.roc_server.proofs.Pairs.{looked_within}

@@ -2,7 +2,7 @@ use Rattle.std.proofs.Common.{◌∙◌, ◌++◌, ◌∷◌, [], map, filter, s
 use Rattle.roc_sequence.proofs.Fronts.{front_whole}
 use Rattle.roc_base.specs.declared.id.TxnId.{TxnId}
 use Rattle.roc_base.specs.Edge.{Dependency}
-use Rattle.roc_server.specs.Lists.{is_done}
+use Rattle.roc_step.specs.Lists.{is_done}
 use Rattle.roc_server.proofs.Pairs.{passed_more, failed_more}
 use Rattle.roc_server.proofs.missing.done_of.Goals as goal
 use Rattle.roc_server.proofs.missing.done_of.Goals.{then-is_done+in_ok-push, else-is_done}

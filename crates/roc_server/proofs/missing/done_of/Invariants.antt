@@ -1,6 +1,6 @@
 use Rattle.std.proofs.Common.{◌≡◌, map, filter, take}
-use Rattle.roc_server.specs.Lists.{is_done}
-use Rattle.roc_server.specs.State.{ServerState}
+use Rattle.roc_step.specs.Lists.{is_done}
+use Rattle.roc_step.specs.State.{ServerState}
 use Rattle.roc_server.proofs.missing.done_of.Given as goal
 
 abbrev pub invariant-loop-edge : goal.invariant-loop-edge

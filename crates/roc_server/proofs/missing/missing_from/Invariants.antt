@@ -2,8 +2,8 @@ use Rattle.std.proofs.Common.{◌≡◌, ◌&&◌, not, map, filter, take}
 use Rattle.roc_base.specs.TxnId.{is_txn}
 use Rattle.roc_sequence.specs.Places.{is_listed}
 use Rattle.roc_server.specs.Inner.Taught.{asked_by}
-use Rattle.roc_server.specs.Lists.{is_missing}
-use Rattle.roc_server.specs.State.{ServerState}
+use Rattle.roc_step.specs.Lists.{is_missing}
+use Rattle.roc_step.specs.State.{ServerState}
 use Rattle.roc_server.proofs.missing.missing_from.Given as goal
 
 abbrev pub invariant-loop-edge : goal.invariant-loop-edge

@@ -1,11 +1,11 @@
 use Rattle.std.proofs.Common.{◌≡◌, IfOk, refl, sym, subst}
 use Rattle.std.proofs.lemmas.Result.{IfOk-weaker}
-use Rattle.roc_server.specs.declared.handled.Handled.TheVariants.{Done}
+use Rattle.roc_step.specs.declared.handled.Handled.TheVariants.{Done}
 use Rattle.roc_server.specs.declared.starts.Request.{Request}
 use Rattle.roc_server.specs.Inner.Planned.{after}
 use Rattle.roc_server.specs.Inner.ServerData.{asked, state_of}
-use Rattle.roc_server.specs.Fits.{AreGroupsOf}
-use Rattle.roc_server.specs.Lists.{after_ended}
+use Rattle.roc_step.specs.Fits.{AreGroupsOf}
+use Rattle.roc_step.specs.Lists.{after_ended}
 use Rattle.roc_server.specs.Inner.Shown.{ShowsStep}
 use Rattle.roc_server.specs.Inner.Settled.{IsHearing, Settles}
 use Rattle.roc_server.specs.Inner.Starts.{StartTaken}

@@ -1,5 +1,5 @@
 use Rattle.std.proofs.Common.{drop}
-use Rattle.roc_server.specs.Runs.{accesses_of, all_buffered}
+use Rattle.roc_step.specs.Runs.{accesses_of, all_buffered}
 use Rattle.roc_server.proofs.Accesses.{NotesRest}
 use Rattle.roc_server.proofs.ran.note_all.Given as goal
 

@@ -2,11 +2,11 @@ use Rattle.std.proofs.Common.{◌+◌, Option, [], ◌∷◌, refl, sym, subst, 
 use Rattle.std.specs.Option.{option_to_list}
 use Rattle.roc_sequence.proofs.Found.{found_holds}
 use Rattle.roc_msg.specs.Outbox.{HasRun}
-use Rattle.roc_server.specs.declared.started.StartedGroup.{StartedGroup}
-use Rattle.roc_server.specs.Fits.{IsCallOf}
+use Rattle.roc_step.specs.declared.started.StartedGroup.{StartedGroup}
+use Rattle.roc_step.specs.Fits.{IsCallOf}
 use Rattle.roc_server.specs.Inner.Runs.{buffered}
-use Rattle.roc_server.specs.Runs.{accesses_of, group_call}
-use Rattle.roc_server.specs.State.{is_group, find_group}
+use Rattle.roc_step.specs.Runs.{accesses_of, group_call}
+use Rattle.roc_step.specs.State.{is_group, find_group}
 use Rattle.roc_server.proofs.Accesses.{notes_more, number_parts}
 use Rattle.roc_server.proofs.GroupRuns.{groups_from}
 use Rattle.roc_server.proofs.ran.note_transaction.Goals as goal

@@ -1,5 +1,5 @@
 use Rattle.roc_server.specs.Inner.Runs.{buffered}
-use Rattle.roc_server.specs.Runs.{accesses_of}
+use Rattle.roc_step.specs.Runs.{accesses_of}
 use Rattle.roc_server.proofs.Accesses.{NotesRest}
 use Rattle.roc_server.proofs.GroupRuns.{groups_from}
 use Rattle.roc_server.proofs.ran.note_transaction.Given as goal

@@ -1,6 +1,6 @@
 use Rattle.std.proofs.Common.{◌++◌, ◌∷◌, [], if◌then◌else◌, sym, ap, ◌∙◌}
 use Rattle.std.specs.List.{list_any}
-use Rattle.roc_server.specs.Reads.{is_same_read}
+use Rattle.roc_step.specs.Reads.{is_same_read}
 use Rattle.roc_server.proofs.read_answers.add_read.Goals as goal
 
 pub returns-then-is_kept : goal.returns-then-is_kept

@@ -1,7 +1,7 @@
 use Rattle.std.proofs.Common.{◌∙◌, filter, sym, ap, subst}
-use Rattle.roc_server.specs.Fits.{AreReadsOf, IsReadOf}
+use Rattle.roc_step.specs.Fits.{AreReadsOf, IsReadOf}
 use Rattle.roc_server.specs.Inner.Answering.{is_free_then}
-use Rattle.roc_server.specs.Reads.{in_turn}
+use Rattle.roc_step.specs.Reads.{in_turn}
 use Rattle.roc_server.proofs.ReadsOfPlan.{some_hold, turn_holds}
 use Rattle.roc_server.proofs.read_answers.answer_free.Goals as goal
 

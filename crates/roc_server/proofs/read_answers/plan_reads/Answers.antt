@@ -1,10 +1,10 @@
 use Rattle.std.proofs.Common.{◌∙◌, ◌≤◌, [], List, length, not, map, filter, None, Some, refl, sym, ap, subst, append-nil}
 use Rattle.roc_msg.specs.declared.outbox.Ran.{Ran}
 use Rattle.roc_msg.specs.Outbox.{HasSent}
-use Rattle.roc_server.specs.Fits.{AreReadsOf, IsReadOf}
+use Rattle.roc_step.specs.Fits.{AreReadsOf, IsReadOf}
 use Rattle.roc_server.specs.Inner.Answering.{is_free_then, readok_over}
 use Rattle.roc_server.specs.Inner.Held.{viewing_of}
-use Rattle.roc_server.specs.Reads.{in_turn, reads_with, with_accesses}
+use Rattle.roc_step.specs.Reads.{in_turn, reads_with, with_accesses}
 use Rattle.roc_server.proofs.ReadsOfPlan.{some_hold, with_fits}
 use Rattle.roc_server.proofs.ReadSteps.{none_ignored, plans_reads}
 use Rattle.roc_server.proofs.read_answers.plan_reads.Goals as goal

@@ -1,7 +1,7 @@
 use Rattle.std.proofs.Common.{List, ℤ, unwrap_or, ap, ◌∙◌}
-use Rattle.roc_server.specs.declared.handled.Handled.TheVariants.{Done}
+use Rattle.roc_step.specs.declared.handled.Handled.TheVariants.{Done}
 use Rattle.roc_server.specs.Inner.ServerData.{state_of}
-use Rattle.roc_server.specs.Reads.{read_refusal}
+use Rattle.roc_step.specs.Reads.{read_refusal}
 use Rattle.roc_server.proofs.read_refusals.plan_read.Goals as goal
 
 pub returns-clause-answer : goal.returns-clause-answer

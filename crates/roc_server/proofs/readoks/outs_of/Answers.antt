@@ -1,6 +1,6 @@
 use Rattle.std.proofs.Common.{◌++◌, length, sym, ap, ◌∙◌}
 use Rattle.roc_group.specs.GroupRun.{call, group_run}
-use Rattle.roc_server.specs.Reads.{read_call}
+use Rattle.roc_step.specs.Reads.{read_call}
 use Rattle.roc_server.proofs.CopiedCells.{outs_over}
 use Rattle.roc_server.proofs.readoks.outs_of.Goals as goal
 

@@ -1,7 +1,7 @@
 use Rattle.std.proofs.Common.{map, take}
 use Rattle.roc_msg.specs.Outbox.{HasSent}
 use Rattle.roc_server.specs.Inner.Answering.{readok_over}
-use Rattle.roc_server.specs.Reads.{with_accesses}
+use Rattle.roc_step.specs.Reads.{with_accesses}
 use Rattle.roc_server.proofs.readoks.send_readoks.Given as goal
 
 -- those so far were answered

@@ -1,6 +1,6 @@
 use Rattle.std.proofs.Common.{◌≡◌, map, take}
 use Rattle.roc_rows.specs.Versions.{version}
-use Rattle.roc_server.specs.Reads.{with_accesses}
+use Rattle.roc_step.specs.Reads.{with_accesses}
 use Rattle.roc_server.proofs.readoks.versions_of.Given as goal
 
 -- those so far

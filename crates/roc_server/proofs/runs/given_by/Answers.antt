@@ -1,6 +1,6 @@
 use Rattle.std.proofs.Common.{◌≡◌, IfOk, OnOk, sym, subst}
 use Rattle.roc_group.specs.GroupRun.{GroupCall, group_run}
-use Rattle.roc_server.specs.Fits.{IsCallOf}
+use Rattle.roc_step.specs.Fits.{IsCallOf}
 use Rattle.roc_server.proofs.runs.given_by.Goals as goal
 
 pub given_with-requires : goal.given_with-requires

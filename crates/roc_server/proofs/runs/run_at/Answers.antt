@@ -5,10 +5,10 @@ use Rattle.roc_sequence.proofs.Holds.{all_at}
 use Rattle.roc_group.specs.GroupRun.{group_run}
 use Rattle.roc_plan.specs.Groups.{Plan}
 use Rattle.roc_rows.specs.Store.{Store}
-use Rattle.roc_server.specs.declared.started.StartedGroup.{StartedGroup}
-use Rattle.roc_server.specs.Fits.{IsCallOf}
+use Rattle.roc_step.specs.declared.started.StartedGroup.{StartedGroup}
+use Rattle.roc_step.specs.Fits.{IsCallOf}
 use Rattle.roc_server.specs.Inner.Runs.{RunsAt}
-use Rattle.roc_server.specs.Runs.{group_call}
+use Rattle.roc_step.specs.Runs.{group_call}
 use Rattle.roc_server.proofs.runs.run_at.Goals as goal
 
 pub given_by-requires : goal.given_by-requires

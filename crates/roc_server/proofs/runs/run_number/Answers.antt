@@ -1,9 +1,9 @@
 use Rattle.std.proofs.Common.{◌≡◌, Some, None, position, sym, ap, ◌∙◌}
 use Rattle.std.specs.Option.{option_to_list}
-use Rattle.roc_server.specs.Runs.{run_groups}
+use Rattle.roc_step.specs.Runs.{run_groups}
 use Rattle.roc_server.specs.Inner.ServerData.{holding}
 use Rattle.roc_server.specs.Inner.Runs.{buffered}
-use Rattle.roc_server.specs.State.{is_group}
+use Rattle.roc_step.specs.State.{is_group}
 use Rattle.roc_sequence.proofs.Found.{not_found}
 use Rattle.roc_server.proofs.GroupRuns.{number_runs, number_same}
 use Rattle.roc_server.proofs.runs.run_number.Goals as goal

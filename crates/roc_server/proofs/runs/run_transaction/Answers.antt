@@ -1,6 +1,6 @@
 use Rattle.std.proofs.Common.{◌≡◌, ◌≤◌, find, sym, ap, ◌∙◌, arith}
 use Rattle.roc_base.specs.TxnId.{is_txn}
-use Rattle.roc_server.specs.Runs.{run_groups, count_of_groups}
+use Rattle.roc_step.specs.Runs.{run_groups, count_of_groups}
 use Rattle.roc_server.specs.Inner.ServerData.{holding}
 use Rattle.roc_server.specs.Inner.Runs.{buffered}
 use Rattle.roc_server.proofs.GroupRuns.{runs_more, groups_from-end, groups_here-from}

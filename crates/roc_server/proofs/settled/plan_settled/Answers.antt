@@ -1,5 +1,5 @@
 use Rattle.std.proofs.Common.{◌≡◌, ◌∙◌, Result, Ok, Err, IfOk, OnOk, sym, subst}
-use Rattle.roc_server.specs.declared.handled.Handled.TheVariants.{Done, Gone}
+use Rattle.roc_step.specs.declared.handled.Handled.TheVariants.{Done, Gone}
 use Rattle.roc_server.specs.declared.planned.Change.TheVariants.{Settled}
 use Rattle.roc_server.specs.Inner.Planned.{after, IsPlannedFrom, IsSettledFrom}
 use Rattle.roc_server.specs.Inner.Settled.{IsHearing, IsSettling, Settles}

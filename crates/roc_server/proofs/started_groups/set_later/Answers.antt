@@ -1,7 +1,7 @@
 use Rattle.std.proofs.Common.{◌≡◌, ◌∙◌, map, Some, slice_set, sym, ap, refl, rules}
 use Rattle.indexmap.proofs.CallerLemmas.{keys-with_value_at}
 use Rattle.indexmap.specs.IndexMap.{values}
-use Rattle.roc_server.specs.declared.started.StartedGroup.{StartedGroup}
+use Rattle.roc_step.specs.declared.started.StartedGroup.{StartedGroup}
 use Rattle.roc_server.specs.Inner.Keyed.{key_of}
 use Rattle.roc_server.proofs.KeyedGroups.{keys-set, values-set}
 use Rattle.roc_server.proofs.started_groups.set_later.Goals as goal

@@ -1,11 +1,11 @@
 use Rattle.std.proofs.Common.{◌≡◌, None, List, refl, subst, ◌∙◌}
 use Rattle.roc_base.specs.Edge.{Dependency}
 use Rattle.roc_group.specs.GroupRun.{group_uses}
-use Rattle.roc_server.specs.declared.started.StartedGroup.{StartedGroup}
-use Rattle.roc_server_lists.specs.New.{AreLedTo}
+use Rattle.roc_step.specs.declared.started.StartedGroup.{StartedGroup}
+use Rattle.roc_step.specs.New.{AreLedTo}
 use Rattle.roc_server.specs.Inner.ServerData.{asked, state_of}
-use Rattle.roc_server.specs.Start.{edges_for, entries_for, is_immediate_group}
-use Rattle.roc_server.specs.State.{ServerState}
+use Rattle.roc_step.specs.Start.{edges_for, entries_for, is_immediate_group}
+use Rattle.roc_step.specs.State.{ServerState}
 use Rattle.roc_server.proofs.started_now.new_group.Goals as goal
 
 pub returns-clause-new : goal.returns-clause-new

@@ -1,6 +1,6 @@
 use Rattle.std.proofs.Common.{sym, ap, ◌∙◌}
 use Rattle.std.specs.Option.{option_copied}
-use Rattle.roc_server.specs.declared.handled.Handled.TheVariants.{Done}
+use Rattle.roc_step.specs.declared.handled.Handled.TheVariants.{Done}
 use Rattle.roc_server.specs.declared.planned.Change.TheVariants.{Nothing}
 use Rattle.roc_server.specs.Inner.Planned.{after}
 use Rattle.roc_server.specs.Inner.ServerData.{asked, state_of}

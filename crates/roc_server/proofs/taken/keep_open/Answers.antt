@@ -1,7 +1,7 @@
 use Rattle.std.proofs.Common.{rules, not, List}
 use Rattle.std.proofs.lemmas.Fn.{filter_same}
 use Rattle.roc_base.specs.declared.id.TxnId.{TxnId}
-use Rattle.roc_server.specs.Forgets.{is_over}
+use Rattle.roc_step.specs.Forgets.{is_over}
 use Rattle.roc_server.proofs.taken.keep_open.Goals as goal
 
 pub returns : goal.returns

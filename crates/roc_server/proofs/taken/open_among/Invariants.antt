@@ -1,5 +1,5 @@
 use Rattle.std.proofs.Common.{◌≡◌, not, filter, take}
-use Rattle.roc_server.specs.Forgets.{is_over}
+use Rattle.roc_step.specs.Forgets.{is_over}
 use Rattle.roc_server.proofs.taken.open_among.Given as goal
 
 abbrev pub invariant-loop-component : goal.invariant-loop-component

@@ -1,5 +1,5 @@
 use Rattle.std.proofs.Common.{◌≡◌, ◌++◌, take}
-use Rattle.roc_server.specs.Forgets.{over}
+use Rattle.roc_step.specs.Forgets.{over}
 use Rattle.roc_server.proofs.taken.push_over.Given as goal
 
 -- the members of those so far that are over were added

@@ -1,13 +1,13 @@
 use Rattle.std.proofs.Common.{◌++◌, ◌∙◌, Some, map, refl, ap, sym, subst}
-use Rattle.roc_server.specs.declared.handled.Handled.TheVariants.{Done}
+use Rattle.roc_step.specs.declared.handled.Handled.TheVariants.{Done}
 use Rattle.roc_server.specs.declared.planned.Change.TheVariants.{Lists}
 use Rattle.roc_server.specs.declared.planned.Lesson.{Lesson}
 use Rattle.roc_server.specs.declared.server_data.ServerData.{ServerData}
 use Rattle.roc_server.specs.Inner.Planned.{after, IsPlannedFrom}
-use Rattle.roc_server.specs.Fits.{AreGroupsOf}
+use Rattle.roc_step.specs.Fits.{AreGroupsOf}
 use Rattle.roc_server.specs.Inner.Left.{IsOver}
 use Rattle.roc_server.specs.Inner.ServerData.{IsSame}
-use Rattle.roc_server.specs.State.{unrun}
+use Rattle.roc_step.specs.State.{unrun}
 use Rattle.roc_server.specs.Inner.Taught.{Acts, AreLearnt, AreRowsFound, IsLearning, Learns, Teaches}
 use Rattle.roc_server.proofs.Alike.{alike_same}
 use Rattle.roc_server.proofs.LeftNew.{rows_found_still}

@@ -1,6 +1,6 @@
 use Rattle.std.proofs.Common.{◌+◌, ◌∷◌, drop, ◌∙◌, ap, sym, arith}
 use Rattle.roc_sequence.proofs.Fronts.{no_rest, rest_at}
-use Rattle.roc_server.specs.Reads.{with_accesses}
+use Rattle.roc_step.specs.Reads.{with_accesses}
 use Rattle.roc_server.proofs.CountedWrites.{one_has_room, rest_counted, rest_has_room}
 use Rattle.roc_server.proofs.views.count_writes.Goals as goal
 

@@ -1,5 +1,5 @@
 use Rattle.std.proofs.Common.{◌≡◌, ◌≤◌, length, filter, drop}
-use Rattle.roc_server.specs.Reads.{with_accesses}
+use Rattle.roc_step.specs.Reads.{with_accesses}
 use Rattle.roc_server.proofs.views.count_writes.Given as goal
 
 -- what is left, counted from here, is all of it, and there is room for it

@@ -1,5 +1,5 @@
 use Rattle.std.proofs.Common.{◌≡◌, map, filter, take}
-use Rattle.roc_server.specs.Waiting.{is_waiting, waiting_of}
+use Rattle.roc_step.specs.Waiting.{is_waiting, waiting_of}
 use Rattle.roc_server.proofs.waiting.all_waiting.Given as goal
 
 -- those so far that wait

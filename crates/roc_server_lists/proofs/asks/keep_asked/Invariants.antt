@@ -1,5 +1,5 @@
 use Rattle.std.proofs.Common.{◌≡◌, ◌+◌, ◌≤◌, drop}
-use Rattle.roc_await.specs.Waits.{with_all_asked}
+use Rattle.roc_step.specs.Waits.{with_all_asked}
 use Rattle.roc_server_lists.proofs.asks.keep_asked.Given as goal
 
 abbrev pub invariant-loop-a : goal.invariant-loop-a

@@ -1,4 +1,4 @@
-use Rattle.roc_server_lists.proofs.TakenNew.{taken_new}
+use Rattle.roc_step.proofs.TakenNew.{taken_new}
 use Rattle.roc_server_lists.proofs.decided.newly_taken.Goals as goal
 
 pub returns : goal.returns

@@ -1,6 +1,6 @@
 use Rattle.std.proofs.Common.{map, take}
 use Rattle.roc_msg.specs.Outbox.{HasSent}
-use Rattle.roc_server_lists.specs.Asking.{fetch_from}
+use Rattle.roc_step.specs.Asking.{fetch_from}
 use Rattle.roc_server_lists.proofs.fetches.send_fetches.Given as goal
 
 abbrev pub invariant-loop-a : goal.invariant-loop-a

@@ -1,6 +1,6 @@
 use Rattle.std.proofs.Common.{◌∙◌, sym, ap, min}
 use Rattle.roc_base.specs.declared.node.Shard.{Shard}
-use Rattle.roc_server_lists.proofs.LeastNaming.{least_found, least_absent}
+use Rattle.roc_step.proofs.LeastNaming.{least_found, least_absent}
 use Rattle.roc_server_lists.proofs.known_lists.least_in.Goals as goal
 
 pub returns-in-Some : goal.returns-in-Some

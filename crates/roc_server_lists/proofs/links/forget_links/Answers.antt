@@ -1,7 +1,7 @@
 use Rattle.std.proofs.Common.{◌≤◌, ◌++◌, length, ap, ◌∙◌, append-nil, arith}
 use Rattle.roc_sequence.proofs.Fronts.{no_rest}
 use Rattle.roc_server_lists.proofs.LearntLast.{first_known, less_one}
-use Rattle.roc_server_lists.proofs.SameIds.{as_many}
+use Rattle.roc_step.proofs.SameIds.{as_many}
 use Rattle.roc_server_lists.proofs.links.forget_links.Goals as goal
 
 pub loop-k-init : goal.loop-k-init

@@ -1,5 +1,5 @@
 use Rattle.std.proofs.Common.{drop}
-use Rattle.roc_server_lists.specs.New.{AreLinkedLast}
+use Rattle.roc_step.specs.New.{AreLinkedLast}
 use Rattle.roc_server_lists.proofs.LearntLast.{IsLearntRest}
 use Rattle.roc_server_lists.proofs.links.forget_links.Given as goal
 

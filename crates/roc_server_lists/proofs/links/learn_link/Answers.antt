@@ -7,9 +7,9 @@ use Rattle.roc_sequence.proofs.Holds.{has_any}
 use Rattle.roc_base.specs.TxnId.{is_txn}
 use Rattle.roc_base.specs.Edge.{Dependency}
 use Rattle.roc_depgraph.specs.declared.known.KnownList.{KnownList}
-use Rattle.roc_server_lists.specs.Carried.{list_with}
+use Rattle.roc_step.specs.Carried.{list_with}
 use Rattle.roc_server_lists.proofs.Learning.{learns_new}
-use Rattle.roc_server_lists.proofs.WithoutLinks.{without_none}
+use Rattle.roc_step.proofs.WithoutLinks.{without_none}
 use Rattle.roc_server_lists.proofs.links.learn_link.Goals as goal
 
 none_of : (p : Dependency → Bool) (es : List Dependency) → list_any p es ≡ false → (d : Dependency) → Has d es → p d ≡ false

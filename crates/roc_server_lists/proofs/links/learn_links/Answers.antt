@@ -4,10 +4,10 @@ use Rattle.roc_sequence.proofs.Fronts.{front_whole}
 use Rattle.roc_base.specs.declared.id.TxnId.{TxnId}
 use Rattle.roc_base.specs.TxnId.{is_txn}
 use Rattle.roc_depgraph.specs.declared.known.KnownList.{KnownList}
-use Rattle.roc_server_lists.specs.Links.{without_links}
+use Rattle.roc_step.specs.Links.{without_links}
 use Rattle.roc_server_lists.proofs.Learning.{linked_more, learnable_more, next_new}
 use Rattle.roc_server_lists.proofs.LearntLast.{front_learnable}
-use Rattle.roc_server_lists.proofs.SameIds.{ids_without, learnable_alike}
+use Rattle.roc_step.proofs.SameIds.{ids_without, learnable_alike}
 use Rattle.roc_server_lists.proofs.links.learn_links.Goals as goal
 
 pub loop-at-init : goal.loop-at-init

@@ -1,8 +1,8 @@
 use Rattle.std.proofs.Common.{◌≡◌, ◌++◌, map, take, drop}
 use Rattle.roc_sequence.specs.Places.{is_listed}
 use Rattle.roc_base.specs.TxnId.{is_txn}
-use Rattle.roc_await.specs.Learning.{AreLearnable}
-use Rattle.roc_server_lists.specs.Links.{without_links}
+use Rattle.roc_step.specs.Learning.{AreLearnable}
+use Rattle.roc_step.specs.Links.{without_links}
 use Rattle.roc_server_lists.proofs.links.learn_links.Given as goal
 
 abbrev pub invariant-loop-at : goal.invariant-loop-at

@@ -1,5 +1,5 @@
 use Rattle.std.proofs.Common.{drop}
-use Rattle.roc_server_lists.specs.New.{AreLearntLast}
+use Rattle.roc_step.specs.New.{AreLearntLast}
 use Rattle.roc_server_lists.proofs.LearntLast.{IsLearntRest}
 use Rattle.roc_server_lists.proofs.news.forget_news.Given as goal
 

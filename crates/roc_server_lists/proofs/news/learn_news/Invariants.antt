@@ -1,5 +1,5 @@
 use Rattle.std.proofs.Common.{◌≡◌, ◌++◌, take, drop}
-use Rattle.roc_await.specs.Learning.{AreLearnable}
+use Rattle.roc_step.specs.Learning.{AreLearnable}
 use Rattle.roc_server_lists.proofs.news.learn_news.Given as goal
 
 abbrev pub invariant-loop-at : goal.invariant-loop-at

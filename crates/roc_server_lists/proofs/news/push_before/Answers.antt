@@ -2,7 +2,7 @@ use Rattle.std.proofs.Common.{List, Bool, ◌++◌, filter, sym, ap, ◌∙◌}
 use Rattle.std.proofs.lemmas.List.{take_all}
 use Rattle.roc_base.specs.TxnId.{txn_lt}
 use Rattle.roc_depgraph.specs.declared.known.KnownList.{KnownList}
-use Rattle.roc_server_lists.specs.Carried.{unknown_of}
+use Rattle.roc_step.specs.Carried.{unknown_of}
 use Rattle.roc_server_lists.proofs.NewsOfFacts.{news_more, news_same, before_is}
 use Rattle.roc_server_lists.proofs.news.push_before.Goals as goal
 use Rattle.roc_server_lists.proofs.news.push_before.Goals.{then-lt+in_ok-push_unknown, else-lt}

@@ -1,6 +1,6 @@
 use Rattle.std.proofs.Common.{◌≡◌, ◌++◌, filter, take}
 use Rattle.roc_base.specs.TxnId.{txn_lt}
-use Rattle.roc_server_lists.specs.Carried.{unknown_of}
+use Rattle.roc_step.specs.Carried.{unknown_of}
 use Rattle.roc_server_lists.proofs.news.push_behind.Given as goal
 
 abbrev pub invariant-loop-fact : goal.invariant-loop-fact

@@ -5,7 +5,7 @@ use Rattle.roc_base.specs.TxnId.{txn_cmp}
 use Rattle.roc_depgraph.specs.Deps.{entries_of}
 use Rattle.roc_msg.specs.Facts.{most_facts, most_fact_edges}
 use Rattle.roc_server_ancestors.proofs.Fronts.{taken_rises}
-use Rattle.roc_server_lists.specs.Piggyback.{facts_of}
+use Rattle.roc_step.specs.Piggyback.{facts_of}
 use Rattle.roc_server_lists.proofs.ToldFacts.{front_of_front}
 use Rattle.roc_server_lists.proofs.told.facts_for.Goals as goal
 

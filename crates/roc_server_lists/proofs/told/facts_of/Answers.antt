@@ -6,7 +6,7 @@ use Rattle.roc_depgraph.specs.declared.known.KnownList.{KnownList}
 use Rattle.roc_depgraph.specs.Deps.{entries_of}
 use Rattle.roc_msg.specs.Facts.{front_of_facts}
 use Rattle.roc_msg.proofs.FactFronts.{front_nothing}
-use Rattle.roc_server_lists.specs.Piggyback.{facts_of}
+use Rattle.roc_step.specs.Piggyback.{facts_of}
 use Rattle.roc_server_lists.proofs.ToldFacts.{AreBehind, goes_on, behind_none, behind_more, next_before, behind_rest}
 use Rattle.roc_server_lists.proofs.told.facts_of.Goals as goal
 

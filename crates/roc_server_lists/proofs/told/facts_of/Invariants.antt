@@ -1,7 +1,7 @@
 use Rattle.std.proofs.Common.{◌≡◌, ◌++◌, map, drop}
 use Rattle.roc_depgraph.specs.Deps.{entries_of}
 use Rattle.roc_msg.specs.Facts.{front_of_facts}
-use Rattle.roc_server_lists.specs.Piggyback.{facts_of}
+use Rattle.roc_step.specs.Piggyback.{facts_of}
 use Rattle.roc_server_lists.proofs.ToldFacts.{AreBehind}
 use Rattle.roc_server_lists.proofs.told.facts_of.Given as goal
 

@@ -1,6 +1,6 @@
 use Rattle.std.proofs.Common.{◌≡◌, Some, sym, subst}
 use Rattle.std.specs.Prelude.{slice_get}
-use Rattle.roc_server.specs.State.{ServerState}
+use Rattle.roc_step.specs.State.{ServerState}
 use Rattle.roc_views.proofs.WovenOrder.{run_beside}
 use Rattle.roc_views.proofs.beginnings.cells_are_in_their_place.Goals as goal
 

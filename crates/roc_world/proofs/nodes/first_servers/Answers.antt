@@ -1,5 +1,5 @@
-use Rattle.roc_server.specs.First.{first_server}
-use Rattle.roc_server.specs.Reads.{first_viewing}
+use Rattle.roc_step.specs.First.{first_server}
+use Rattle.roc_step.specs.Reads.{first_viewing}
 use Rattle.roc_world.proofs.FirstNodes.{firsts_more}
 use Rattle.roc_world.proofs.nodes.first_servers.Goals as goal
 

@@ -1,7 +1,7 @@
 use Rattle.std.proofs.Common.{◌≡◌, map}
 use Rattle.std.specs.List.{range_with_len}
-use Rattle.roc_server.specs.First.{first_server}
-use Rattle.roc_server.specs.Reads.{first_viewing}
+use Rattle.roc_step.specs.First.{first_server}
+use Rattle.roc_step.specs.Reads.{first_viewing}
 use Rattle.roc_world.proofs.nodes.first_servers.Given as goal
 
 abbrev pub invariant-loop-number : goal.invariant-loop-number

@@ -1,4 +1,4 @@
-use Rattle.roc_server.specs.Fits.{AreReadsOf, ServerFits}
+use Rattle.roc_step.specs.Fits.{AreReadsOf, ServerFits}
 use Rattle.roc_world.proofs.NodeSteps.{server_takes, part_at}
 use Rattle.roc_world.proofs.nodes.handle_at_server.Goals as goal
 

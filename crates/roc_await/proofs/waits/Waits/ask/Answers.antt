@@ -1,6 +1,6 @@
 use Rattle.std.proofs.Common.{List, sym, subst}
-use Rattle.roc_await.specs.declared.waits.OpenFetch.{OpenFetch}
-use Rattle.roc_await.specs.Waits.{AreKept, with_asked}
+use Rattle.roc_step.specs.declared.waits.OpenFetch.{OpenFetch}
+use Rattle.roc_step.specs.Waits.{AreKept, with_asked}
 use Rattle.roc_await.proofs.OpenFetches.{kept_asked}
 use Rattle.roc_await.proofs.waits.Waits.ask.Goals as goal
 

@@ -2,8 +2,8 @@ use Rattle.std.proofs.Common.{List, not, filter, sym, subst}
 use Rattle.roc_sequence.specs.Places.{is_listed}
 use Rattle.roc_base.specs.declared.id.TxnId.{TxnId}
 use Rattle.roc_base.specs.TxnId.{is_txn}
-use Rattle.roc_await.specs.declared.waits.OpenFetch.{OpenFetch}
-use Rattle.roc_await.specs.Waits.{AreKept}
+use Rattle.roc_step.specs.declared.waits.OpenFetch.{OpenFetch}
+use Rattle.roc_step.specs.Waits.{AreKept}
 use Rattle.roc_await.proofs.OpenFetches.{kept_without_asked}
 use Rattle.roc_await.proofs.waits.Waits.drop_asked.Goals as goal
 

@@ -1,6 +1,6 @@
 use Rattle.std.proofs.Common.{List, sym, subst}
-use Rattle.roc_await.specs.declared.waits.Asker.{Asker}
-use Rattle.roc_await.specs.Waits.{AreKept}
+use Rattle.roc_step.specs.declared.waits.Asker.{Asker}
+use Rattle.roc_step.specs.Waits.{AreKept}
 use Rattle.roc_await.proofs.OpenFetches.{kept_without_askers}
 use Rattle.roc_await.proofs.waits.Waits.drop_askers.Goals as goal
 

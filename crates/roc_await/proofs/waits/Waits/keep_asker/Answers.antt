@@ -1,6 +1,6 @@
 use Rattle.std.proofs.Common.{List, sym, subst}
-use Rattle.roc_await.specs.declared.waits.Asker.{Asker}
-use Rattle.roc_await.specs.Waits.{AreKept}
+use Rattle.roc_step.specs.declared.waits.Asker.{Asker}
+use Rattle.roc_step.specs.Waits.{AreKept}
 use Rattle.roc_await.proofs.OpenFetches.{kept_asker}
 use Rattle.roc_await.proofs.waits.Waits.keep_asker.Goals as goal
 

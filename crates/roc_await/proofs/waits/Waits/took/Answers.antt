@@ -1,6 +1,6 @@
 use Rattle.std.proofs.Common.{List, sym, subst}
-use Rattle.roc_await.specs.declared.waits.OpenFetch.{OpenFetch}
-use Rattle.roc_await.specs.Waits.{AreKept}
+use Rattle.roc_step.specs.declared.waits.OpenFetch.{OpenFetch}
+use Rattle.roc_step.specs.Waits.{AreKept}
 use Rattle.roc_await.proofs.OpenFetches.{kept_without_fetch}
 use Rattle.roc_await.proofs.waits.Waits.took.Goals as goal
 

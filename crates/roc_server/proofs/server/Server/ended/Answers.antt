@@ -1,5 +1,5 @@
 use Rattle.std.proofs.Common.{List, ℕ, ◌∙◌, sym, ap}
-use Rattle.roc_server.specs.Below.{is_ended}
+use Rattle.roc_step.specs.Below.{is_ended}
 use Rattle.roc_server.specs.State.{Serving}
 use Rattle.roc_server.proofs.ReadsBefore.{untouched}
 use Rattle.roc_server.proofs.server.Server.ended.Goals as goal

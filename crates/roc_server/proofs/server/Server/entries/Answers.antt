@@ -6,11 +6,12 @@ use Rattle.roc_base.specs.Edges.{united}
 use Rattle.roc_depgraph.specs.Deps.{IsDecided}
 use Rattle.roc_depgraph.proofs.RisingLists.{rising_one}
 use Rattle.roc_server.specs.declared.server_data.ServerData.{ServerData}
-use Rattle.roc_server.specs.declared.started.StartedGroup.{StartedGroup}
-use Rattle.roc_server_lists.specs.New.{AreDecided}
-use Rattle.roc_server.specs.Fits.{AreGroupsOf, ServerFits}
-use Rattle.roc_server.specs.Start.{conflicts_before, edge_to, is_immediate, entries_for, users}
-use Rattle.roc_server.specs.State.{Serving, ServerState}
+use Rattle.roc_step.specs.declared.started.StartedGroup.{StartedGroup}
+use Rattle.roc_step.specs.New.{AreDecided}
+use Rattle.roc_step.specs.Fits.{AreGroupsOf, ServerFits}
+use Rattle.roc_step.specs.Start.{conflicts_before, edge_to, is_immediate, entries_for, users}
+use Rattle.roc_server.specs.State.{Serving}
+use Rattle.roc_step.specs.State.{ServerState}
 use Rattle.roc_server.specs.Inner.Indexed.{IsIndexOf}
 use Rattle.roc_server.specs.Inner.Held.{kept_before}
 use Rattle.roc_server.specs.Inner.ServerData.{is_same_group, state_of}

@@ -1,6 +1,7 @@
 use Rattle.std.proofs.Common.{◌≡◌, subst}
-use Rattle.roc_server.specs.State.{Serving, ServerStep}
-use Rattle.roc_server.specs.Step.{Handles}
+use Rattle.roc_server.specs.State.{Serving}
+use Rattle.roc_step.specs.State.{ServerStep}
+use Rattle.roc_step.specs.Step.{Handles}
 use Rattle.roc_server.proofs.server.Server.ready.Goals as goal
 
 pub returns-clause-answer : goal.returns-clause-answer

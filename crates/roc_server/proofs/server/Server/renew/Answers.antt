@@ -1,10 +1,11 @@
 use Rattle.std.proofs.Common.{◌∙◌, ap, subst, sym}
 use Rattle.roc_server.specs.Ahead.{ServingFits}
-use Rattle.roc_server.specs.Fits.{AreGroupsOf, AreReadsOf}
+use Rattle.roc_step.specs.Fits.{AreGroupsOf, AreReadsOf}
 use Rattle.roc_server.specs.Inner.Held.{kept_before, serving}
 use Rattle.roc_server.specs.Inner.ServerData.{state_of}
-use Rattle.roc_server.specs.Renewed.{renewed}
-use Rattle.roc_server.specs.State.{ServerState, Serving, Viewing}
+use Rattle.roc_step.specs.Renewed.{renewed}
+use Rattle.roc_step.specs.State.{ServerState, Viewing}
+use Rattle.roc_server.specs.State.{Serving}
 use Rattle.roc_server.proofs.server.Server.renew.Goals as goal
 
 pub returns-clause-state : goal.returns-clause-state

@@ -1,8 +1,8 @@
 use Rattle.std.proofs.Common.{◌≡◌, ◌∙◌, map, sym, ap, subst, OnOk}
 use Rattle.roc_msg.specs.Outbox.{HasSent}
-use Rattle.roc_server_lists.specs.Asking.{fetch_from}
+use Rattle.roc_step.specs.Asking.{fetch_from}
 use Rattle.roc_server.specs.State.{Serving}
-use Rattle.roc_server.specs.Step.{tick_sends}
+use Rattle.roc_step.specs.Step.{tick_sends}
 use Rattle.roc_server.proofs.ReadsBefore.{open_before}
 use Rattle.roc_server.proofs.server.Server.tick.Goals as goal
 use Rattle.roc_server.proofs.server.Server.tick.Goals.{in-Ok, in-Err}

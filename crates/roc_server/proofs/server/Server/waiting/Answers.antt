@@ -1,11 +1,11 @@
 use Rattle.std.proofs.Common.{◌≡◌, List, IfOk, refl, sym, subst}
 use Rattle.roc_base.specs.declared.id.TxnId.{TxnId}
-use Rattle.roc_server_lists.specs.New.{AreDecided}
-use Rattle.roc_server.specs.Fits.{ServerFits}
+use Rattle.roc_step.specs.New.{AreDecided}
+use Rattle.roc_step.specs.Fits.{ServerFits}
 use Rattle.roc_server.specs.Inner.Held.{kept_before}
 use Rattle.roc_server.specs.Inner.ServerData.{state_of}
 use Rattle.roc_server.specs.State.{Serving}
-use Rattle.roc_server.specs.Waiting.{is_waiting, waiting_groups, waiting_of}
+use Rattle.roc_step.specs.Waiting.{is_waiting, waiting_groups, waiting_of}
 use Rattle.roc_server.proofs.ReadsBefore.{fits_now, for_decided, kept_decided, over_same, same_before}
 use Rattle.roc_server.proofs.server.Server.waiting.Goals as goal
 

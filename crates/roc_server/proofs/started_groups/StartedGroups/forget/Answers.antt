@@ -3,7 +3,7 @@ use Rattle.std.specs.Map.{values_of}
 use Rattle.roc_sequence.specs.Places.{is_listed}
 use Rattle.roc_base.specs.declared.id.TxnId.{TxnId}
 use Rattle.roc_base.specs.TxnId.{is_txn}
-use Rattle.roc_server.specs.declared.started.StartedGroup.{StartedGroup}
+use Rattle.roc_step.specs.declared.started.StartedGroup.{StartedGroup}
 use Rattle.roc_server.specs.Inner.Keyed.{AreKeyed, Entered}
 use Rattle.roc_server.proofs.KeyedGroups.{keyed_some, values_some}
 use Rattle.roc_server.proofs.started_groups.StartedGroups.forget.Goals as goal

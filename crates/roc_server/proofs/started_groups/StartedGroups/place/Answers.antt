@@ -1,5 +1,5 @@
 use Rattle.std.proofs.Common.{position, ap, subst, ◌∙◌}
-use Rattle.roc_server.specs.State.{is_group}
+use Rattle.roc_step.specs.State.{is_group}
 use Rattle.roc_server.specs.Inner.Keyed.{Entered, IsOnceHere}
 use Rattle.roc_server.proofs.KeyedGroups.{place_is, once_here}
 use Rattle.roc_server.proofs.started_groups.StartedGroups.place.Goals as goal

@@ -1,6 +1,6 @@
 use Rattle.std.proofs.Common.{◌++◌, List, subst, sym}
 use Rattle.roc_base.specs.declared.id.TxnId.{TxnId}
-use Rattle.roc_server_ancestors.specs.Led.{IsKnownAndLedTo}
+use Rattle.roc_step.specs.Led.{IsKnownAndLedTo}
 use Rattle.roc_server_ancestors.specs.Least.{AreRows, HeldRows}
 use Rattle.roc_server_ancestors.specs.Inner.Met.{CoversLeast}
 use Rattle.roc_server_ancestors.proofs.Fronts.{least_met}

@@ -2,7 +2,7 @@ use Rattle.std.proofs.Common.{sym, ap, subst, ◌∙◌}
 use Rattle.roc_base.specs.TxnId.{is_txn}
 use Rattle.roc_sequence.specs.Places.{NoneTwice}
 use Rattle.roc_server_lists.proofs.KnownEntries.{keys_are, distinct_once}
-use Rattle.roc_server_lists.proofs.SameIds.{ids_of}
+use Rattle.roc_step.proofs.SameIds.{ids_of}
 use Rattle.roc_server_lists.proofs.known_lists.KnownLists.ids.Goals as goal
 
 pub returns-clause-ids : goal.returns-clause-ids

@@ -2,9 +2,9 @@ use Rattle.std.proofs.Common.{◌≤◌, ℕ, List, take, sym, ap, subst, ◌∙
 use Rattle.std.proofs.lemmas.List.{take_all}
 use Rattle.std.specs.List.{flat_map}
 use Rattle.roc_base.specs.Edge.{Dependency}
-use Rattle.roc_server_lists.specs.Links.{all_entries, least_naming}
+use Rattle.roc_step.specs.Links.{all_entries, least_naming}
 use Rattle.roc_server_lists.proofs.KnownEntries.{values_are}
-use Rattle.roc_server_lists.proofs.LeastNaming.{least_more, least_bound}
+use Rattle.roc_step.proofs.LeastNaming.{least_more, least_bound}
 use Rattle.roc_server_lists.proofs.known_lists.KnownLists.least_naming.Goals as goal
 
 pub loop-edges-preserved : goal.loop-edges-preserved

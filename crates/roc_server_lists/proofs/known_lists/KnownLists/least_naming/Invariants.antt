@@ -1,6 +1,6 @@
 use Rattle.std.proofs.Common.{◌≡◌, take}
 use Rattle.std.specs.List.{flat_map}
-use Rattle.roc_server_lists.specs.Links.{least_naming}
+use Rattle.roc_step.specs.Links.{least_naming}
 use Rattle.roc_server_lists.proofs.known_lists.KnownLists.least_naming.Given as goal
 
 -- the least of those that the lists so far tell

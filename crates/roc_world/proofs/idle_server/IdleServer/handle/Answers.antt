@@ -1,7 +1,7 @@
 use Rattle.std.proofs.Common.{IfOk, subst}
-use Rattle.roc_server.specs.Reads.{AnswersReads, ReadStep}
-use Rattle.roc_server.specs.State.{ServerStep}
-use Rattle.roc_server.specs.Step.{Handles, Shows}
+use Rattle.roc_step.specs.Reads.{AnswersReads, ReadStep}
+use Rattle.roc_step.specs.State.{ServerStep}
+use Rattle.roc_step.specs.Step.{Handles, Shows}
 use Rattle.roc_world.specs.Inner.Nodes.{Idle}
 use Rattle.roc_world.proofs.idle_server.IdleServer.handle.Goals as goal
 

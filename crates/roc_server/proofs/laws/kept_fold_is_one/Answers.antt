@@ -1,6 +1,0 @@
-use Rattle.std.proofs.Common.{refl}
-use Rattle.roc_server.proofs.KeptFolds.{one_fold}
-use Rattle.roc_server.proofs.laws.kept_fold_is_one.Goals as goal
-
-pub returns : goal.returns
-returns c plan shard msgs s t v u f g = one_fold plan shard f g refl

@@ -1,0 +1,11 @@
+pub mod Asking
+pub mod ForgottenLinks
+pub mod Raised
+pub mod SameIds
+pub mod Skipped
+pub mod TakenNew
+pub mod OneStep
+pub mod KeptFolds
+pub mod Unions
+pub mod WithoutLinks
+pub mod LeastNaming
