@@ -1,12 +1,14 @@
 //! Known lists that travel along.
-ghost use Rattle.std.specs.Prelude.{◌≡◌, ◌++◌, ◌∷◌, [], length, IsTrue, IfOk, OnOk, OnErr};
+ghost use Rattle.std.specs.Prelude.{◌≡◌, ◌++◌, ◌∷◌, ◌<◌, [], length, vec_len, IsTrue, IfOk, IfErr, OnOk, OnErr};
+ghost use Rattle.std.specs.Vec.{vec_capacity};
 ghost use Rattle.roc_msg.specs.Facts.{AreFacts, is_behind_facts};
 
 use roc_base::{NoMemory, TxnId};
 use roc_depgraph::KnownList;
-use roc_sequence::Sequence;
+use roc_sequence::Shared;
 use std::alloc::{AllocError, Global};
 use std::marker::Model;
+use std::mem;
 
 /// How many lists travel along with a message.
 pub const MOST_FACTS: usize = 16;
@@ -15,11 +17,11 @@ pub const MOST_FACTS: usize = 16;
 pub const MOST_FACT_EDGES: usize = 1000;
 
 /// Lists of predecessors that a message tells besides its own, rising strictly by the ids of their
-/// transactions.
+/// transactions. Its copies share them until one of them is changed.
 #[derive(Debug, Drop)]
 pub struct Facts {
     alloc: Global,
-    lists: Sequence<KnownList>,
+    lists: Shared<KnownList>,
 }
 
 impl Model for Facts {
@@ -41,7 +43,7 @@ impl Facts {
     {
         Facts {
             alloc,
-            lists: Sequence::new(alloc),
+            lists: Shared::new(alloc),
         }
     }
 
@@ -73,30 +75,63 @@ impl Facts {
         ensures ok { OnOk result (self.new ≡ self.old ++ fact ∷ []) }
         ensures err { OnErr result (self.new ≡ self.old) }
     {
-        self.lists.push(fact)?;
-        Ok(())
+        let lists = mem::replace(&mut self.lists, Shared::new(self.alloc));
+        match with_room(self.alloc, lists) {
+            Ok(mut lists) => {
+                lists.push(fact).unwrap();
+                self.lists = Shared::from_vec(lists);
+                Ok(())
+            }
+            Err(lists) => {
+                self.lists = lists;
+                Err(NoMemory)
+            }
+        }
     }
 }
 
-/// A copy is on the same allocator, and has the same lists.
+/// A copy is on the same allocator, and has the same lists. It takes no memory, unless there was too little of it as the lists were added.
 impl Clone for Facts {
     ghost use Rattle.std.specs.Prelude.{◌≡◌};
 
     ghost is_clone = { λ from copy. copy ≡ from };
 
     fn clone(&self) -> Result<Facts, AllocError> {
+        let lists = match self.lists.shared() {
+            Some(lists) => lists,
+            None => Shared::from_vec(copied(self.alloc, self.lists.as_slice())?),
+        };
         Ok(Facts {
             alloc: self.alloc,
-            lists: copied(self.alloc, self.lists.as_slice())?,
+            lists,
         })
     }
 }
 
-// A copy of each list.
-fn copied(alloc: Global, lists: &[KnownList]) -> Result<Sequence<KnownList>, AllocError>
-    ensures { IfOk result (λ copy. copy ≡ lists.now) }
+// The lists as a vector with room for one more, or else the lists.
+fn with_room(alloc: Global, lists: Shared<KnownList>) -> Result<Vec<KnownList>, Shared<KnownList>>
+    ensures lists { IfOk result (λ items. items.items ≡ lists) }
+    ensures room { IfOk result (λ items. vec_len items < vec_capacity items) }
+    ensures err { IfErr result (λ left. left ≡ lists) }
 {
-    let mut copy = Sequence::new(alloc);
+    let mut items = match lists.try_unwrap() {
+        Ok(items) => items,
+        Err(lists) => match copied(alloc, lists.as_slice()) {
+            Ok(items) => items,
+            Err(_) => return Err(lists),
+        },
+    };
+    match items.reserve(1) {
+        Ok(()) => Ok(items),
+        Err(_) => Err(Shared::from_vec(items)),
+    }
+}
+
+// A copy of each list.
+fn copied(alloc: Global, lists: &[KnownList]) -> Result<Vec<KnownList>, AllocError>
+    ensures { IfOk result (λ copy. copy.items ≡ lists.now) }
+{
+    let mut copy = Vec::new(alloc);
     for list in lists {
         copy.push(list.clone()?)?;
     }

@@ -1,4 +1,4 @@
-use Rattle.std.proofs.Common.{◌≡◌, true, List, [], ◌∷◌, sym, subst}
+use Rattle.std.proofs.Common.{◌≡◌, true, List, [], ◌∷◌, ◌++◌, rules, sym, subst}
 use Rattle.std.proofs.lemmas.Bool.{and_parts}
 use Rattle.std.specs.List.{list_all, AllByRecursion}
 use Rattle.roc_sequence.proofs.Rising.{rising_more}
@@ -14,7 +14,8 @@ all_before (fact ∷ facts) id h =
     let parts = and_parts (txn_lt fact.of id) (list_all (λ f. txn_lt f.of id) facts) h in
     (parts.0, all_before facts id parts.1)
 
-pub invariant_of-self-2 : goal.invariant_of-self-2
-invariant_of-self-2 c =
+pub invariant_of-self : goal.invariant_of-self
+invariant_of-self c =
     let behind : is_behind_facts c.self.inside.lists c.args.fact.of ≡ true = subst (λ facts. is_behind_facts facts c.args.fact.of ≡ true) (sym c.self.view_is) c.requires in
-    subst AreFacts (sym c.in_ok-push.ensures.ok) (rising_more is_fact_before c.args.fact c.self.inside.lists c.self.invariant (all_before c.self.inside.lists c.args.fact.of behind))
+    let is : c.from_vec.result ≡ c.self.inside.lists ++ c.args.fact ∷ [] = search rules in
+    subst AreFacts (sym is) (rising_more is_fact_before c.args.fact c.self.inside.lists c.self.invariant (all_before c.self.inside.lists c.args.fact.of behind))
