@@ -108,6 +108,30 @@ impl Clone for Facts {
     }
 }
 
+impl PartialEq for Facts {
+    ghost use Rattle.std.specs.Prelude.{◌≡◌, ◌↔◌, IsTrue};
+    ghost use Rattle.roc_msg.specs.Equality.{are_lists};
+    ghost use Rattle.roc_msg.specs.Equalities.{lists_per};
+
+    ghost eq = { are_lists };
+
+    ghost laws = { lists_per };
+
+    /// Equal exactly where the lists are.
+    fn eq(&self, other: &Facts) -> bool
+        ensures test { result ≡ are_lists self.now other.now }
+        ensures equal { IsTrue result ↔ (self.now ≡ other.now) }
+    {
+        self.as_slice() == other.as_slice()
+    }
+}
+
+impl Eq for Facts {
+    ghost use Rattle.roc_msg.specs.Equalities.{lists_equivalence};
+
+    ghost laws = { lists_equivalence };
+}
+
 // The lists as a vector with room for one more, or else the lists.
 fn with_room(alloc: Global, lists: Shared<KnownList>) -> Result<Vec<KnownList>, Shared<KnownList>>
     ensures lists { IfOk result (λ items. items.items ≡ lists) }

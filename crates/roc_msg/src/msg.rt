@@ -4,7 +4,7 @@ use crate::{CellVersions, Facts};
 use roc_base::{Edges, NoMemory, Node, Nums, Shard, TxnId};
 
 /// What nodes tell one another, as in the start and commit rounds of ROCOCO (OSDI 2014).
-#[derive(Debug, Drop)]
+#[derive(Clone, Debug, Drop, PartialEq, Eq)]
 pub enum Msg {
     /// A coordinator asks the shard of a group's place to start it.
     Start {

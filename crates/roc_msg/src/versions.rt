@@ -73,3 +73,27 @@ impl Clone for CellVersions {
         })
     }
 }
+
+impl PartialEq for CellVersions {
+    ghost use Rattle.std.specs.Prelude.{◌≡◌, ◌↔◌, IsTrue};
+    ghost use Rattle.roc_msg.specs.Equality.{is_versions};
+    ghost use Rattle.roc_msg.specs.Equalities.{versions_per};
+
+    ghost eq = { is_versions };
+
+    ghost laws = { versions_per };
+
+    /// Equal exactly where the lists are.
+    fn eq(&self, other: &CellVersions) -> bool
+        ensures test { result ≡ is_versions self.now other.now }
+        ensures equal { IsTrue result ↔ (self.now ≡ other.now) }
+    {
+        self.as_slice() == other.as_slice()
+    }
+}
+
+impl Eq for CellVersions {
+    ghost use Rattle.roc_msg.specs.Equalities.{versions_equivalence};
+
+    ghost laws = { versions_equivalence };
+}
