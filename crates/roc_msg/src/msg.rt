@@ -100,7 +100,7 @@ pub enum Msg {
 }
 
 impl Msg {
-    ghost use Rattle.std.specs.Prelude.{◌≡◌, IfOk};
+    ghost use Rattle.std.specs.Prelude.{◌≡◌, ◌↔◌, IsTrue, IfOk};
     ghost use Rattle.roc_msg.specs.Msg.{id_of, kind_of};
 
     /// The transaction that the message is of: none for a stop, and for what speaks of all that a
@@ -240,6 +240,13 @@ impl Msg {
                 shard: *shard,
             },
         })
+    }
+
+    /// Whether this is the same message. Takes no memory.
+    pub fn is(&self, other: &Msg) -> bool
+        ensures { IsTrue result ↔ (self.now ≡ other.now) }
+    {
+        *self == *other
     }
 }
 
