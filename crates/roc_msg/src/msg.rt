@@ -1,7 +1,7 @@
 //! A message, and a message on its way.
 
 use crate::{CellVersions, Facts};
-use roc_base::{Edges, NoMemory, Node, Nums, Shard, TxnId};
+use roc_base::{Edges, Node, Nums, Shard, TxnId};
 
 /// What nodes tell one another, as in the start and commit rounds of ROCOCO (OSDI 2014).
 #[derive(Clone, Debug, Drop, PartialEq, Eq)]
@@ -100,7 +100,7 @@ pub enum Msg {
 }
 
 impl Msg {
-    ghost use Rattle.std.specs.Prelude.{◌≡◌, ◌↔◌, IsTrue, IfOk};
+    ghost use Rattle.std.specs.Prelude.{◌≡◌, ◌↔◌, IsTrue};
     ghost use Rattle.roc_msg.specs.Msg.{id_of, kind_of};
 
     /// The transaction that the message is of: none for a stop, and for what speaks of all that a
@@ -142,104 +142,6 @@ impl Msg {
             Msg::Drained { .. } => 12,
             Msg::Switched { .. } => 13,
         }
-    }
-
-    /// A copy, its lists on the same allocators.
-    pub fn try_clone(&self) -> Result<Msg, NoMemory>
-        ensures { IfOk result (λ copy. copy ≡ self.now) }
-    {
-        Ok(match self {
-            Msg::Start {
-                id,
-                proc,
-                group,
-                args,
-                inputs,
-            } => Msg::Start {
-                id: *id,
-                proc: *proc,
-                group: *group,
-                args: args.clone()?,
-                inputs: inputs.clone()?,
-            },
-            Msg::StartOk {
-                id,
-                group,
-                shard,
-                bound,
-                outs,
-                edges,
-                facts,
-            } => Msg::StartOk {
-                id: *id,
-                group: *group,
-                shard: *shard,
-                bound: bound.clone()?,
-                outs: outs.clone()?,
-                edges: edges.clone()?,
-                facts: facts.clone()?,
-            },
-            Msg::Commit { id, edges, facts } => Msg::Commit {
-                id: *id,
-                edges: edges.clone()?,
-                facts: facts.clone()?,
-            },
-            Msg::CommitOk { id, shard, outs } => Msg::CommitOk {
-                id: *id,
-                shard: *shard,
-                outs: outs.clone()?,
-            },
-            Msg::Fetch { id, asker } => Msg::Fetch {
-                id: *id,
-                asker: *asker,
-            },
-            Msg::Known { id, edges } => Msg::Known {
-                id: *id,
-                edges: edges.clone()?,
-            },
-            Msg::Stop => Msg::Stop,
-            Msg::Ended { coord, below } => Msg::Ended {
-                coord: *coord,
-                below: *below,
-            },
-            Msg::Settled { id, below } => Msg::Settled {
-                id: *id,
-                below: *below,
-            },
-            Msg::Read {
-                id,
-                round,
-                proc,
-                group,
-                args,
-            } => Msg::Read {
-                id: *id,
-                round: *round,
-                proc: *proc,
-                group: *group,
-                args: args.clone()?,
-            },
-            Msg::ReadOk {
-                id,
-                round,
-                group,
-                shard,
-                versions,
-                outs,
-            } => Msg::ReadOk {
-                id: *id,
-                round: *round,
-                group: *group,
-                shard: *shard,
-                versions: versions.clone()?,
-                outs: outs.clone()?,
-            },
-            Msg::Drained { upto } => Msg::Drained { upto: *upto },
-            Msg::Switched { upto, shard } => Msg::Switched {
-                upto: *upto,
-                shard: *shard,
-            },
-        })
     }
 
     /// Whether this is the same message. Takes no memory.

@@ -7,6 +7,7 @@ mod KeptFirst
 mod KeptLists
 mod MadeSteps
 mod AtOnce
+mod GivenOut
 mod MessageSteps
 mod SameGroups
 mod StartSteps

@@ -15,7 +15,7 @@ use Rattle.roc_step.specs.declared.handled.Handled.{Handled}
 use Rattle.roc_step.specs.declared.kept_read.KeptRead.{KeptRead}
 use Rattle.roc_server.specs.declared.server_data.ServerData.{ServerData}
 use Rattle.roc_server.specs.declared.views.Views.{Views}
-use Rattle.roc_server.specs.Ahead.{needs_room, HasRoom, IsMadeFor, ServingFits}
+use Rattle.roc_server.specs.Ahead.{needs_room, HasAllMade, HasRoom, IsMadeFor, ServingFits}
 use Rattle.roc_step.specs.Fits.{AreGroupsOf, AreReadsOf}
 use Rattle.roc_server.specs.declared.planned.Change.{Change}
 use Rattle.roc_server.specs.declared.planned.Change.TheVariants.{Nothing, Asker, Group, Lists, Marks, Settled}
@@ -39,7 +39,7 @@ pub idle_fits : (plan : Plan) (shard : Shard) (k : ServerData) (v : Views) (ahea
 idle_fits plan shard k v ahead none fits reads = subst (λ a. ServingFits plan (serving shard k v a)) (sym none) (fits, reads, tt)
 
 -- what was made for a message is the step, where it is what is answered, kept and sent
-served : (plan : Plan) (s t : ServerState) (v w : Viewing) (msg : Msg) (made : MadeAhead) (old new : Collected) (answer : Handled) → made.msg ≡ msg → IsMadeFor plan s v made → made.answer ≡ answer → made.state ≡ t → made.viewing ≡ w
+pub served : (plan : Plan) (s t : ServerState) (v w : Viewing) (msg : Msg) (made : MadeAhead) (old new : Collected) (answer : Handled) → made.msg ≡ msg → IsMadeFor plan s v made → made.answer ≡ answer → made.state ≡ t → made.viewing ≡ w
     → HoldsAlso old new made.sends → IsServed plan s v msg answer t w old new
 served plan s t v w msg made old new answer same fits answers keeps views told = (
   fits.step,
@@ -63,21 +63,9 @@ groups_from plan s t is fits = subst (λ (u : ServerState). AreGroupsOf plan u.s
 pub reads_from : (plan : Plan) (v w : Viewing) → v ≡ w → AreReadsOf plan w.reads → AreReadsOf plan v.reads
 reads_from plan v w is fits = subst (λ (u : Viewing). AreReadsOf plan u.reads) (sym is) fits
 
--- a step of what was made ahead, from what is told of it, and the groups and the reads behind it
-pub made_step : (plan : Plan) (shard : Shard) (k : ServerData) (x : Views) (ahead : Option Ahead) (s t : ServerState) (v w : Viewing) (msg : Msg) (old new : Collected) (answer : Handled)
-    → IsSome ahead × IfSome ahead (λ made. made.msg ≡ msg)
-    → IfSome (option_map (made_ahead shard k x) ahead) (IsMadeFor plan s v)
-    → IfSome (option_map (made_ahead shard k x) ahead) (λ made. (made.answer ≡ answer) × (made.state ≡ t) × (made.viewing ≡ w) × HoldsAlso old new made.sends)
-    → IsServed plan s v msg answer t w old new × (AreGroupsOf plan t.started × AreReadsOf plan w.reads)
-made_step plan shard k x None s t v w msg old new answer (some, same) fits told = absurd (false≢true some)
-made_step plan shard k x (Some a) s t v w msg old new answer (some, same) fits told = (
-  served plan s t v w msg (made_ahead shard k x a) old new answer same fits told.0 told.1 told.2 told.3,
-  (groups_from plan t (made_ahead shard k x a).state (sym told.1) fits.groups, reads_from plan w (made_ahead shard k x a).viewing (sym told.2) fits.views_fit),
-)
-
 -- what it is answered
 pub made_answer : (plan : Plan) (shard : Shard) (k : ServerData) (x : Views) (ahead : Option Ahead) (s : ServerState) (v : Viewing) (msg : Msg) (answer : Handled)
-    → IsSome ahead × IfSome ahead (λ made. made.msg ≡ msg)
+    → IsSome ahead × IfSome ahead (λ made. made.msg.value ≡ msg)
     → IfSome (option_map (made_ahead shard k x) ahead) (IsMadeFor plan s v)
     → IfSome ahead (λ made. made.outcome.answer ≡ answer)
     → (r : ServerStep) × Handles plan s msg r × (r.answer ≡ answer)
@@ -86,7 +74,7 @@ made_answer plan shard k x (Some a) s v msg answer (some, same) fits told = (fit
 
 -- where the room is there and the kind needs it, it was made for this message
 pub room_is : (shard : Shard) (k : ServerData) (x : Views) (ahead : Option Ahead) (outbox : Collected) (msg : Msg) → needs_room msg ≡ true → HasRoom (serving shard k x ahead) outbox msg
-    → IfSome ahead (λ made. (made.msg ≡ msg) × HasRoomFor outbox made.outcome.sends) × IsSome ahead
+    → IfSome ahead (λ made. (made.msg.value ≡ msg) × HasRoomFor outbox made.outcome.sends) × IsSome ahead
 room_is shard k x None outbox msg kind h = elim h [ inl none ↦ absurd (false≢true (sym none ∙ kind)) | inr all ↦ absurd (none-some all.made all.is) ]
 room_is shard k x (Some a) outbox msg kind h =
     elim h [
@@ -96,21 +84,25 @@ room_is shard k x (Some a) outbox msg kind h =
           ((ap (λ (m : MadeAhead). m.msg) is ∙ all.of, subst (λ (m : MadeAhead). HasRoomFor outbox m.sends) (sym is) all.room), refl)
     ]
 
--- ..so it is found
-pub room_found : (ahead : Option Ahead) (msg : Msg) (outbox : Collected) (found : Bool) → IfSome ahead (λ made. made.msg ≡ msg → IsTrue found)
-    → IfSome ahead (λ made. (made.msg ≡ msg) × HasRoomFor outbox made.outcome.sends) × IsSome ahead → IsTrue found
-room_found None msg outbox found all (h, some) = absurd (false≢true some)
-room_found (Some a) msg outbox found all (h, some) = all h.0
+-- what was made for a message is found
+pub found_made : (ahead : Option Ahead) (msg : Msg) (found : Bool) → IfSome ahead (λ made. made.msg.value ≡ msg → IsTrue found) → IsSome ahead × IfSome ahead (λ made. made.msg.value ≡ msg) → IsTrue found
+found_made None msg found all (some, same) = absurd (false≢true some)
+found_made (Some a) msg found all (some, same) = all same
 
-pub room_for : (ahead : Option Ahead) (msg : Msg) (outbox : Collected) → IfSome ahead (λ made. (made.msg ≡ msg) × HasRoomFor outbox made.outcome.sends) → IfSome ahead (λ made. HasRoomFor outbox made.outcome.sends)
+-- where the room is there, it was made for this message, and there is room for what is sent
+pub room_same : (ahead : Option Ahead) (msg : Msg) (outbox : Collected) → IfSome ahead (λ made. (made.msg.value ≡ msg) × HasRoomFor outbox made.outcome.sends) × IsSome ahead → IsSome ahead × IfSome ahead (λ made. made.msg.value ≡ msg)
+room_same None msg outbox (h, some) = (some, tt)
+room_same (Some a) msg outbox (h, some) = (some, h.0)
+
+pub room_for : (ahead : Option Ahead) (msg : Msg) (outbox : Collected) → IfSome ahead (λ made. (made.msg.value ≡ msg) × HasRoomFor outbox made.outcome.sends) → IfSome ahead (λ made. HasRoomFor outbox made.outcome.sends)
 room_for None msg outbox h = tt
 room_for (Some a) msg outbox h = h.1
 
 -- the room that was taken
-pub has_room : (shard : Shard) (k : ServerData) (x : Views) (ahead : Option Ahead) (outbox : Collected) (msg : Msg) → IsSome ahead × IfSome ahead (λ made. made.msg ≡ msg) → IfSome ahead (λ made. HasRoomFor outbox made.outcome.sends)
-    → HasRoom (serving shard k x ahead) outbox msg
+pub has_room : (shard : Shard) (k : ServerData) (x : Views) (ahead : Option Ahead) (outbox : Collected) (msg : Msg) → IsSome ahead × IfSome ahead (λ made. made.msg.value ≡ msg) → IfSome ahead (λ made. HasRoomFor outbox made.outcome.sends)
+    → HasAllMade (serving shard k x ahead) outbox msg
 has_room shard k x None outbox msg (some, same) room = absurd (false≢true some)
-has_room shard k x (Some a) outbox msg (some, same) room = inr (record { made = made_ahead shard k x a; is = refl; of = same; room = room })
+has_room shard k x (Some a) outbox msg (some, same) room = record { made = made_ahead shard k x a; is = refl; of = same; room = room }
 
 -- the reads that stay, and those that stayed where a message was ignored
 pub then_fit : (plan : Plan) (v : Viewing) (answer : Handled) (ran : List Ran) (stays : Option (Vec KeptRead Global)) → AreReadsOf plan v.reads → AreReadsOf plan (reads_then v.reads stays) → AreReadsOf plan (viewing_then v answer ran stays).reads
@@ -159,25 +151,6 @@ module _ (plan : Plan) (shard : Shard) (mid : ServerData) (msg : Msg) (p : Plann
         views_fit = reads_from plan (viewing_then (viewing_of x) p.answer sends.ran o.stays) (viewing_then v p.answer core.ran o.stays) (sym then_is) reads_fit;
       })
 
-module _ (plan : Plan) (shard : Shard) (mid : ServerData) (x : Views) (msg : Msg) (o : Outcome) (s : ServerState) (v : Viewing) (made : IsMadeFor plan s v (made_of shard mid x msg o)) where
-  -- it is done where there is room for what is sent
-  pub finished : {E : Type 0} (done : Result Handled E) (new : ServerData) (y : Views) (old sent : Collected) → IfOk done (λ given. o.answer ≡ given) → OnOk done ((h : Shard) → state_of h new ≡ after h mid o.change)
-      → OnOk done (viewing_of y ≡ viewing_then (viewing_of x) o.answer o.sends.ran o.stays) → OnOk done (HoldsAlso old sent o.sends) → IfOk done (λ answer. IsServed plan s v msg answer (state_of shard new) (viewing_of y) old sent)
-  finished (Err e) new y old sent answers reached views told = tt
-  finished (Ok given) new y old sent answers reached views told = served plan s (state_of shard new) v (viewing_of y) msg (made_of shard mid x msg o) old sent given refl made answers (sym (reached shard)) (sym views) told
-
-  -- the groups are of the plan, done or undone
-  pub finished_fits : {E : Type 0} (Q R : Type 0) (done : Result Handled E) (new : ServerData) → OnOk done ((h : Shard) → state_of h new ≡ after h mid o.change) → OnErr done (((h : Shard) → state_of h new ≡ state_of h (before mid o.change)) × Q × R)
-      → state_of shard (before mid o.change) ≡ s → AreGroupsOf plan s.started → AreGroupsOf plan new.started.groups
-  finished_fits Q R (Ok given) new reached undone from fits_before = groups_from plan (state_of shard new) (after shard mid o.change) (reached shard) made.groups
-  finished_fits Q R (Err e) new reached undone from fits_before = groups_from plan (state_of shard new) s (undone.0 shard ∙ from) fits_before
-
-  -- and so are the reads
-  pub finished_reads : {E : Type 0} (Q R : Type 0) (done : Result Handled E) (y : Views) → OnOk done (viewing_of y ≡ viewing_then (viewing_of x) o.answer o.sends.ran o.stays) → OnErr done (Q × (viewing_of y ≡ viewing_of x) × R)
-      → viewing_of x ≡ v → AreReadsOf plan v.reads → AreReadsOf plan y.reads.items
-  finished_reads Q R (Ok given) y views undone same reads = reads_from plan (viewing_of y) (viewing_then (viewing_of x) o.answer o.sends.ran o.stays) views made.views_fit
-  finished_reads Q R (Err e) y views undone same reads = reads_from plan (viewing_of y) v (undone.1 ∙ same) reads
-
 -- ---- what is kept before what was made ahead is right
 
 pub planned_sound : (k : ServerData) (change : Change) → IsPlanned k change → IsConsistent (before k change)
@@ -192,24 +165,15 @@ pub held_sound : (k : ServerData) (ahead : Option Ahead) → IsHeld k ahead → 
 held_sound k None h = h
 held_sound k (Some made) h = planned_sound k made.outcome.change h
 
--- what was made ahead was taken, or given up: the groups and the reads are of the plan
-pub made_fits : {E : Type 0} (Q : Type 0) (plan : Plan) (shard : Shard) (k new : ServerData) (x y : Views) (ahead : Option Ahead) (s : ServerState) (v : Viewing) (msg : Msg) (old sent : Collected) (done : Result Handled E)
-    → IsSome ahead × IfSome ahead (λ made. made.msg ≡ msg)
-    → IfSome (option_map (made_ahead shard k x) ahead) (IsMadeFor plan s v) → AreGroupsOf plan s.started → AreReadsOf plan v.reads
-    → IfOk done (λ answer. IfSome (option_map (made_ahead shard k x) ahead) (λ made. (made.answer ≡ answer) × (made.state ≡ state_of shard new) × (made.viewing ≡ viewing_of y) × HoldsAlso old sent made.sends))
-    → OnErr done ((state_of shard new ≡ s) × (viewing_of y ≡ v) × Q) → AreGroupsOf plan new.started.groups × AreReadsOf plan y.reads.items
-made_fits Q plan shard k new x y ahead s v msg old sent (Ok answer) found made fits reads told undone = (made_step plan shard k x ahead s (state_of shard new) v (viewing_of y) msg old sent answer found made told).1
-made_fits Q plan shard k new x y ahead s v msg old sent (Err e) found made fits reads told undone = (groups_from plan (state_of shard new) s undone.0 fits, reads_from plan (viewing_of y) v undone.1 reads)
-
 -- what was made is for the message
 made_parts : (plan : Plan) (shard : Shard) (k : ServerData) (x : Views) (ahead : Option Ahead) (s : ServerState) (v : Viewing) (msg : Msg) → IsSome ahead
     → IfSome (option_map (made_ahead shard k x) ahead) (λ made. (made.msg ≡ msg) × IsMadeFor plan s v made)
-    → IfSome ahead (λ made. made.msg ≡ msg) × IfSome (option_map (made_ahead shard k x) ahead) (IsMadeFor plan s v)
+    → IfSome ahead (λ made. made.msg.value ≡ msg) × IfSome (option_map (made_ahead shard k x) ahead) (IsMadeFor plan s v)
 made_parts plan shard k x None s v msg some h = (tt, tt)
 made_parts plan shard k x (Some a) s v msg some h = h
 
 pub made_msg : {A E : Type 0} (done : Result A E) (plan : Plan) (shard : Shard) (k : ServerData) (x : Views) (ahead : Option Ahead) (s : ServerState) (v : Viewing) (msg : Msg)
-    → OnOk done (IfSome (option_map (made_ahead shard k x) ahead) (λ made. (made.msg ≡ msg) × IsMadeFor plan s v made)) → OnOk done (IsSome ahead) → OnOk done (IsSome ahead × IfSome ahead (λ made. made.msg ≡ msg))
+    → OnOk done (IfSome (option_map (made_ahead shard k x) ahead) (λ made. (made.msg ≡ msg) × IsMadeFor plan s v made)) → OnOk done (IsSome ahead) → OnOk done (IsSome ahead × IfSome ahead (λ made. made.msg.value ≡ msg))
 made_msg (Ok a) plan shard k x ahead s v msg made some = (some, (made_parts plan shard k x ahead s v msg some made).0)
 made_msg (Err e) plan shard k x ahead s v msg made some = tt
 

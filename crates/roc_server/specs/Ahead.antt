@@ -1,5 +1,5 @@
 -- What was made ahead for a message, so that the message cannot fail for want of memory: docs/PROTOCOL.md, "Want of memory"
-use Rattle.std.specs.Prelude.{◌≡◌, ◌++◌, Bool, true, false, Some, IfSome, ◌⊎◌}
+use Rattle.std.specs.Prelude.{◌≡◌, ◌++◌, Bool, true, false, Some, None, IfSome, ◌⊎◌}
 use Rattle.roc_msg.specs.declared.msg.Msg.{Msg}
 use Rattle.roc_msg.specs.declared.msg.Msg.TheVariants.{Start, Commit, Fetch, Known, Ended, Settled, Read}
 use Rattle.roc_msg.specs.Outbox.{Collected, HasRoomFor}
@@ -51,3 +51,11 @@ pub record HasAllMade (v : Serving) (outbox : Collected) (msg : Msg) : Type 0 wh
 -- the room for a message is there
 abbrev pub HasRoom : Serving → Collected → Msg → Type 0
 HasRoom v outbox msg = (needs_room msg ≡ false) ⊎ HasAllMade v outbox msg
+
+-- what comes of the message can be taken: it is of a kind that takes no memory, and nothing was made ahead; or all of it was
+abbrev pub IsReady : Serving → Collected → Msg → Type 0
+IsReady v outbox msg = ((needs_room msg ≡ false) × (v.ahead ≡ None)) ⊎ HasAllMade v outbox msg
+
+-- the outbox has room for what was made ahead
+abbrev pub HasRoomToTake : Serving → Collected → Type 0
+HasRoomToTake v outbox = IfSome v.ahead (λ made. HasRoomFor outbox made.sends)

@@ -2,6 +2,7 @@
 use crate::planned::Change;
 use crate::{Handled, KeptRead};
 use roc_msg::{Msg, Outbox};
+use std::rc::Rc;
 
 // What is answered, what is to change, what is sent, and the reads that stay, where others stay than are kept.
 #[derive(Drop)]
@@ -12,9 +13,9 @@ pub(crate) struct Outcome {
     pub stays: Option<Vec<KeptRead>>,
 }
 
-// A message, and what comes of it.
+// A message, and what comes of it. The message is one pointer, so that what holds it is cheap to prove.
 #[derive(Drop)]
 pub(crate) struct Ahead {
-    pub msg: Msg,
+    pub msg: Rc<Msg>,
     pub outcome: Outcome,
 }

@@ -1,12 +1,14 @@
 //! A message is taken, or what comes of it is made ahead.
-ghost use Rattle.std.specs.Prelude.{◌≡◌, true, false, None, IsOk, IsSome, IsTrue, IfOk, IfSome, OnOk, OnErr};
+ghost use Rattle.std.specs.Prelude.{◌≡◌, true, None, Some, IsOk, IsSome, IsTrue, IfOk, IfSome, OnOk, OnErr};
 ghost use Rattle.roc_base.specs.declared.node.Shard.{Shard as At};
+ghost use Rattle.roc_msg.specs.declared.msg.Msg.{Msg as Message};
 ghost use Rattle.roc_msg.specs.Outbox.{HasRoomFor, HoldsAlso, HoldsSame};
-ghost use Rattle.roc_server.specs.Ahead.{needs_room, HasRoom, IsMadeFor, ServingFits};
+ghost use Rattle.roc_server.specs.Ahead.{needs_room, HasAllMade, HasRoom, IsMadeFor, IsReady, ServingFits};
 ghost use Rattle.roc_step.specs.Fits.{AreGroupsOf, AreReadsOf};
 ghost use Rattle.roc_server.specs.Inner.AtOnce.{at_once};
 ghost use Rattle.roc_server.specs.Inner.Held.{kept_before, made_of, serving, viewing_of, viewing_then, CanCount, HasRoomToCount, IsHeld, IsServed};
-ghost use Rattle.roc_server.specs.Inner.Planned.{after, before, IsPlanned, IsPlannedFrom};
+ghost use Rattle.roc_plan.specs.Groups.{Plan as Groups};
+ghost use Rattle.roc_server.specs.Inner.Planned.{after, IsPlanned, IsPlannedFrom};
 ghost use Rattle.roc_server.specs.Inner.ServerData.{state_of, IsConsistent, IsSame};
 ghost use Rattle.roc_step.specs.State.{ServerState, ServerStep};
 ghost use Rattle.roc_step.specs.Step.{Handles};
@@ -17,47 +19,16 @@ use crate::changes::{commit, undo};
 use crate::planned::Planned;
 use crate::planning::plan_message;
 use crate::read_answers::plan_reads;
-use crate::same_msg::is_same;
 use crate::server_data::ServerData;
 use crate::views::{Views, keep_views};
 use roc_base::{NoMemory, Shard};
 use roc_msg::{Msg, Outbox, Reason};
 use roc_plan::Plan;
 use std::alloc::Global;
+use std::rc::Rc;
 
-// Takes a message, or ignores it: as it was made ahead, where it was.
-pub(crate) fn handle(
-    alloc: Global,
-    plan: &Plan,
-    shard: Shard,
-    kept: &mut ServerData,
-    views: &mut Views,
-    ahead: &mut Option<Ahead>,
-    msg: &Msg,
-    outbox: &mut Outbox,
-) -> Result<Handled, NoMemory>
-    requires fits { ServingFits plan.now (serving shard kept.old views.old ahead.old) }
-    requires held { IsHeld kept.old ahead.old }
-    requires count { CanCount views.old ahead.old }
-    ensures step { IfOk result (λ answer. IsServed plan.now (serving shard kept.old views.old ahead.old).state (viewing_of views.old) msg.now answer (state_of shard kept.new) (viewing_of views.new) outbox.old outbox.new) }
-    ensures fits { ServingFits plan.now (serving shard kept.new views.new ahead.new) }
-    ensures room { HasRoom (serving shard kept.old views.old ahead.old) outbox.old msg.now → IsOk result }
-    ensures err { OnErr result ((state_of shard kept.new ≡ (serving shard kept.old views.old ahead.old).state) × (viewing_of views.new ≡ viewing_of views.old) × HoldsSame outbox.old outbox.new) }
-    ensures none { ahead.new ≡ None }
-    ensures sound { IsConsistent kept.new }
-{
-    if !needs_room(msg) {
-        let_go(kept, ahead);
-        return Ok(foreign());
-    }
-    if is_made(ahead, msg) {
-        return take_made(kept, views, ahead, outbox);
-    }
-    let_go(kept, ahead);
-    take(alloc, plan, shard, kept, views, msg, outbox)
-}
-
-// Makes ahead what comes of a message, with the room in the outbox: what the message will be answered.
+// Makes ahead what comes of a message, with the room in the outbox: what the message will be answered. Where there is no memory, nothing is made
+// ahead then.
 pub(crate) fn ready(
     alloc: Global,
     plan: &Plan,
@@ -73,7 +44,9 @@ pub(crate) fn ready(
     requires count { CanCount views.old ahead.old }
     ensures answer { IfOk result (λ answer. (r : ServerStep) × Handles plan.now (serving shard kept.old views.old ahead.old).state msg.now r × (r.answer ≡ answer)) }
     ensures fits { ServingFits plan.now (serving shard kept.new views.new ahead.new) }
-    ensures room { OnOk result (HasRoom (serving shard kept.new views.new ahead.new) outbox.new msg.now) }
+    ensures ready { OnOk result (IsReady (serving shard kept.new views.new ahead.new) outbox.new msg.now) }
+    ensures again { HasRoom (serving shard kept.old views.old ahead.old) outbox.old msg.now → IsOk result }
+    ensures none { OnErr result (ahead.new ≡ None) }
     ensures state { (serving shard kept.new views.new ahead.new).state ≡ (serving shard kept.old views.old ahead.old).state }
     ensures views { viewing_of views.new ≡ viewing_of views.old }
     ensures same { HoldsSame outbox.old outbox.new }
@@ -81,10 +54,47 @@ pub(crate) fn ready(
     ensures count { CanCount views.new ahead.new }
 {
     if !needs_room(msg) {
+        let_go(kept, ahead);
         return Ok(foreign());
     }
-    make_once(alloc, plan, shard, kept, views, ahead, msg)?;
-    make_room(ahead, outbox)
+    match make_ready(alloc, plan, shard, kept, views, ahead, msg, outbox) {
+        Ok(answer) => Ok(answer),
+        Err(NoMemory) => {
+            let_go(kept, ahead);
+            Err(NoMemory)
+        }
+    }
+}
+
+// The same of a message of a kind that takes memory. Where there is none, something may be made ahead.
+fn make_ready(
+    alloc: Global,
+    plan: &Plan,
+    shard: Shard,
+    kept: &mut ServerData,
+    views: &mut Views,
+    ahead: &mut Option<Ahead>,
+    msg: &Msg,
+    outbox: &mut Outbox,
+) -> Result<Handled, NoMemory>
+    requires kind { needs_room msg.now ≡ true }
+    requires fits { ServingFits plan.now (serving shard kept.old views.old ahead.old) }
+    requires held { IsHeld kept.old ahead.old }
+    requires count { CanCount views.old ahead.old }
+    ensures answer { IfOk result (λ answer. (r : ServerStep) × Handles plan.now (serving shard kept.old views.old ahead.old).state msg.now r × (r.answer ≡ answer)) }
+    ensures fits { ServingFits plan.now (serving shard kept.new views.new ahead.new) }
+    ensures made { OnOk result (HasAllMade (serving shard kept.new views.new ahead.new) outbox.new msg.now) }
+    ensures again { HasRoom (serving shard kept.old views.old ahead.old) outbox.old msg.now → IsOk result }
+    ensures state { (serving shard kept.new views.new ahead.new).state ≡ (serving shard kept.old views.old ahead.old).state }
+    ensures views { viewing_of views.new ≡ viewing_of views.old }
+    ensures same { HoldsSame outbox.old outbox.new }
+    ensures held { IsHeld kept.new ahead.new }
+    ensures count { CanCount views.new ahead.new }
+{
+    match make_once(alloc, plan, shard, kept, views, ahead, msg) {
+        Ok(()) => make_room(ahead, outbox),
+        Err(NoMemory) => Err(NoMemory),
+    }
 }
 
 // Plans a message ahead, unless it is. What was made ahead for another one is given up.
@@ -101,7 +111,8 @@ fn make_once(
     requires fits { ServingFits plan.now (serving shard kept.old views.old ahead.old) }
     requires held { IsHeld kept.old ahead.old }
     requires count { CanCount views.old ahead.old }
-    ensures made { OnOk result (IsSome ahead.new × IfSome ahead.new (λ made. made.msg ≡ msg.now)) }
+    ensures made { OnOk result (IsSome ahead.new × IfSome ahead.new (λ made. made.msg.value ≡ msg.now)) }
+    ensures again { IsSome ahead.old × IfSome ahead.old (λ made. made.msg.value ≡ msg.now) → IsOk result × (ahead.new ≡ ahead.old) }
     ensures fits { ServingFits plan.now (serving shard kept.new views.new ahead.new) }
     ensures state { (serving shard kept.new views.new ahead.new).state ≡ (serving shard kept.old views.old ahead.old).state }
     ensures views { viewing_of views.new ≡ viewing_of views.old }
@@ -134,11 +145,11 @@ fn needs_room(msg: &Msg) -> bool
 // Whether what comes of this message was made ahead.
 fn is_made(ahead: &Option<Ahead>, msg: &Msg) -> bool
     requires { needs_room msg.now ≡ true }
-    ensures is { IsTrue result → IsSome ahead.now × IfSome ahead.now (λ made. made.msg ≡ msg.now) }
-    ensures all { IfSome ahead.now (λ made. made.msg ≡ msg.now → IsTrue result) }
+    ensures is { IsTrue result → IsSome ahead.now × IfSome ahead.now (λ made. made.msg.value ≡ msg.now) }
+    ensures all { IfSome ahead.now (λ made. made.msg.value ≡ msg.now → IsTrue result) }
 {
     match ahead {
-        Some(made) => is_same(&made.msg, msg),
+        Some(made) => made.msg.as_ref().is(msg),
         None => false,
     }
 }
@@ -163,51 +174,26 @@ fn foreign() -> Handled
     Handled::Ignored(Reason::Foreign)
 }
 
-// Takes what was made ahead.
-fn take_made(
+// Takes what was made ahead, for which there is room in the outbox. Where nothing was, the message was of a kind that no server takes.
+pub(crate) fn take_ready(
     kept: &mut ServerData,
     views: &mut Views,
     ahead: &mut Option<Ahead>,
     outbox: &mut Outbox,
-) -> Result<Handled, NoMemory>
+) -> Handled
     requires held { IsHeld kept.old ahead.old }
     requires count { CanCount views.old ahead.old }
-    requires made { IsSome ahead.old }
-    ensures ok { IfOk result (λ answer. (shard : At) → IfSome (serving shard kept.old views.old ahead.old).ahead
-        (λ made. (made.answer ≡ answer) × (made.state ≡ state_of shard kept.new) × (made.viewing ≡ viewing_of views.new) × HoldsAlso outbox.old outbox.new made.sends)) }
-    ensures err { OnErr result (((shard : At) → state_of shard kept.new ≡ state_of shard (kept_before kept.old ahead.old)) × (viewing_of views.new ≡ viewing_of views.old) × HoldsSame outbox.old outbox.new) }
-    ensures room { IfSome ahead.old (λ made. HasRoomFor outbox.old made.outcome.sends → IsOk result) }
+    requires room { IfSome ahead.old (λ made. HasRoomFor outbox.old made.outcome.sends) }
+    ensures step { (plan : Groups) (shard : At) (msg : Message) → ServingFits plan (serving shard kept.old views.old ahead.old) → IsReady (serving shard kept.old views.old ahead.old) outbox.old msg
+        → IsServed plan (serving shard kept.old views.old ahead.old).state (viewing_of views.old) msg result (state_of shard kept.new) (viewing_of views.new) outbox.old outbox.new }
+    ensures fits { (plan : Groups) (shard : At) → ServingFits plan (serving shard kept.old views.old ahead.old) → ServingFits plan (serving shard kept.new views.new ahead.new) }
     ensures none { ahead.new ≡ None }
     ensures sound { IsConsistent kept.new }
 {
     match ahead.take() {
         Some(Ahead { msg: _, outcome }) => finish(kept, views, outcome, outbox),
-        None => unreachable!(),
+        None => foreign(),
     }
-}
-
-// Takes a message, or ignores it: it is planned, and done.
-fn take(
-    alloc: Global,
-    plan: &Plan,
-    shard: Shard,
-    kept: &mut ServerData,
-    views: &mut Views,
-    msg: &Msg,
-    outbox: &mut Outbox,
-) -> Result<Handled, NoMemory>
-    requires kind { needs_room msg.now ≡ true }
-    requires fits { AreGroupsOf plan.now kept.old.started.groups }
-    requires reads { AreReadsOf plan.now views.old.reads.items }
-    requires sound { IsConsistent kept.old }
-    ensures step { IfOk result (λ answer. IsServed plan.now (state_of shard kept.old) (viewing_of views.old) msg.now answer (state_of shard kept.new) (viewing_of views.new) outbox.old outbox.new) }
-    ensures fits { AreGroupsOf plan.now kept.new.started.groups }
-    ensures reads { AreReadsOf plan.now views.new.reads.items }
-    ensures err { OnErr result ((state_of shard kept.new ≡ state_of shard kept.old) × (viewing_of views.new ≡ viewing_of views.old) × HoldsSame outbox.old outbox.new) }
-    ensures sound { IsConsistent kept.new }
-{
-    let outcome = plan_step(alloc, plan, shard, kept, views, msg)?;
-    finish(kept, views, outcome, outbox)
 }
 
 // Plans what comes of a message, and what comes of that for reads. No count and no kept read changes.
@@ -245,21 +231,20 @@ fn plan_step(
     }
 }
 
-// What was planned is done, where there is room to send what is to be sent; else it is undone. What ran is counted from the outbox.
+// What was planned is done, and sent, for which there is room. What ran is counted from the outbox.
 fn finish(
     kept: &mut ServerData,
     views: &mut Views,
     outcome: Outcome,
     outbox: &mut Outbox,
-) -> Result<Handled, NoMemory>
+) -> Handled
     requires planned { IsPlanned kept.old outcome.change }
     requires count { HasRoomToCount outcome.sends.ran views.old }
-    ensures answer { IfOk result (λ given. outcome.answer ≡ given) }
-    ensures state { OnOk result ((shard : At) → state_of shard kept.new ≡ after shard kept.old outcome.change) }
-    ensures views { OnOk result (viewing_of views.new ≡ viewing_then (viewing_of views.old) outcome.answer outcome.sends.ran outcome.stays) }
-    ensures sent { OnOk result (HoldsAlso outbox.old outbox.new outcome.sends) }
-    ensures err { OnErr result (((shard : At) → state_of shard kept.new ≡ state_of shard (before kept.old outcome.change)) × (viewing_of views.new ≡ viewing_of views.old) × HoldsSame outbox.old outbox.new) }
-    ensures room { HasRoomFor outbox.old outcome.sends → IsOk result }
+    requires room { HasRoomFor outbox.old outcome.sends }
+    ensures answer { outcome.answer ≡ result }
+    ensures state { (shard : At) → state_of shard kept.new ≡ after shard kept.old outcome.change }
+    ensures views { viewing_of views.new ≡ viewing_then (viewing_of views.old) outcome.answer outcome.sends.ran outcome.stays }
+    ensures sent { HoldsAlso outbox.old outbox.new outcome.sends }
     ensures sound { IsConsistent kept.new }
 {
     let Outcome {
@@ -269,17 +254,10 @@ fn finish(
         stays,
     } = outcome;
     let ran_before = outbox.ran().len();
-    match outbox.append(sends) {
-        Ok(()) => {
-            commit(kept, change);
-            keep_views(views, answer, &outbox.ran()[ran_before..], stays);
-            Ok(answer)
-        }
-        Err(NoMemory) => {
-            undo(kept, change);
-            Err(NoMemory)
-        }
-    }
+    outbox.append(sends).unwrap();
+    commit(kept, change);
+    keep_views(views, answer, &outbox.ran()[ran_before..], stays);
+    answer
 }
 
 // Plans a message ahead, where nothing is made ahead.
@@ -305,10 +283,33 @@ fn make(
     ensures held { IsHeld kept.new ahead.new }
     ensures count { CanCount views.new ahead.new }
 {
-    let copy = msg.try_clone()?;
-    let outcome = plan_step(alloc, plan, shard, kept, views, msg)?;
-    *ahead = Some(Ahead { msg: copy, outcome });
-    Ok(())
+    let copy = shared(alloc, msg)?;
+    match plan_step(alloc, plan, shard, kept, views, msg) {
+        Ok(outcome) => {
+            put(ahead, copy, outcome);
+            Ok(())
+        }
+        Err(NoMemory) => Err(NoMemory),
+    }
+}
+
+// A copy of a message, as one pointer.
+fn shared(alloc: Global, msg: &Msg) -> Result<Rc<Msg>, NoMemory>
+    ensures { IfOk result (λ copy. copy.value ≡ msg.now) }
+{
+    let copy = msg.clone()?;
+    let copy: Result<_, _> = Rc::new(alloc, copy);
+    match copy {
+        Ok(copy) => Ok(copy),
+        Err(_) => Err(NoMemory),
+    }
+}
+
+// This is made ahead from now on.
+fn put(ahead: &mut Option<Ahead>, msg: Rc<Msg>, outcome: Outcome)
+    ensures { ahead.new ≡ Some (record { msg = msg; outcome = outcome }) }
+{
+    *ahead = Some(Ahead { msg, outcome });
 }
 
 // Takes the room in the outbox for what was made ahead: its answer.
@@ -316,6 +317,7 @@ fn make_room(ahead: &Option<Ahead>, outbox: &mut Outbox) -> Result<Handled, NoMe
     requires { IsSome ahead.now }
     ensures answer { IfOk result (λ answer. IfSome ahead.now (λ made. made.outcome.answer ≡ answer)) }
     ensures room { OnOk result (IfSome ahead.now (λ made. HasRoomFor outbox.new made.outcome.sends)) }
+    ensures succeeds { IfSome ahead.now (λ made. HasRoomFor outbox.old made.outcome.sends) → IsOk result }
     ensures same { HoldsSame outbox.old outbox.new }
 {
     match ahead {
@@ -327,6 +329,7 @@ fn make_room(ahead: &Option<Ahead>, outbox: &mut Outbox) -> Result<Handled, NoMe
 fn reserve(made: &Outcome, outbox: &mut Outbox) -> Result<Handled, NoMemory>
     ensures answer { IfOk result (λ answer. made.now.answer ≡ answer) }
     ensures room { OnOk result (HasRoomFor outbox.new made.now.sends) }
+    ensures succeeds { HasRoomFor outbox.old made.now.sends → IsOk result }
     ensures same { HoldsSame outbox.old outbox.new }
 {
     let sends = &made.sends;

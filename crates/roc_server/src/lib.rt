@@ -8,7 +8,8 @@
 //! changes nothing and sends nothing; [`Server::tick`] sends exactly `tick_sends` and changes nothing. Where memory ends,
 //! the server and what the outbox holds are as they were, but for their room, so the same call may be made again.
 //! [`Server::ready`] says what `handle` will answer and takes all memory for it: then the room is there (`HasRoom` of
-//! `specs/Ahead.antt`), and `handle` of that message cannot want memory. What is made ahead is not in the `ServerState`.
+//! `specs/Ahead.antt`), `handle` of that message cannot want memory, and [`Server::take_ready`] gives out what was made, which [`Server::give_up`]
+//! takes back. What is made ahead is not in the `ServerState`.
 //! [`Server::decided`] tells exactly whether a transaction is decided here, [`Server::cells`] lists the cells that are
 //! not 0, and [`Server::waiting`] the buffered groups of undecided transactions (`specs/Waiting.antt` of `roc_step`).
 //! [`Server::entries`] gives the entries of a group that would start, and looks at no more started groups than there are
@@ -55,7 +56,6 @@ mod read_refusals;
 mod readoks;
 mod renewing;
 mod runs;
-mod same_msg;
 mod server;
 mod server_data;
 mod settled;

@@ -5,9 +5,10 @@ ghost use Rattle.roc_depgraph.specs.Deps.{IsDecided};
 ghost use Rattle.roc_msg.specs.Outbox.{HasSent, HoldsSame};
 ghost use Rattle.roc_step.specs.Asking.{fetch_from};
 ghost use Rattle.roc_step.specs.New.{AreDecided};
-ghost use Rattle.roc_plan.specs.Groups.{Plan as AnyPlan};
 ghost use Rattle.roc_rows.specs.Store.{entries};
-ghost use Rattle.roc_server.specs.Ahead.{HasRoom, ServingFits};
+ghost use Rattle.roc_msg.specs.declared.msg.Msg.{Msg as Message};
+ghost use Rattle.roc_plan.specs.Groups.{Plan as Groups};
+ghost use Rattle.roc_server.specs.Ahead.{HasRoom, HasRoomToTake, IsReady, ServingFits};
 ghost use Rattle.roc_step.specs.Below.{is_ended};
 ghost use Rattle.roc_step.specs.First.{first_server};
 ghost use Rattle.roc_step.specs.Fits.{ServerFits};
@@ -24,7 +25,7 @@ ghost use Rattle.roc_server.specs.declared.server_data.ServerData.{ServerData};
 
 use crate::ahead::Ahead;
 use crate::first::first_rows;
-use crate::handling::{handle, let_go, ready};
+use crate::handling::{let_go, ready, take_ready};
 use crate::lent_groups::LentGroups;
 use crate::looks::{Starting, entries};
 use crate::planned::Change;
@@ -92,8 +93,9 @@ impl Server {
     }
 
     /// Says what [`Server::handle`] will answer to a message, and takes all memory that it takes, the outbox's too: until the server or
-    /// the outbox is given something else, that call cannot want memory. Nothing that a caller sees changes. What was made ahead for another
-    /// message is given up. `NoMemory` leaves the state, what is kept for views and what `outbox` holds.
+    /// the outbox is given something else, that call cannot want memory, and [`Server::take_ready`] gives out what was made. Nothing that a caller
+    /// sees changes. What was made ahead for another message is given up. It succeeds again where the room is there. `NoMemory` leaves the state,
+    /// what is kept for views and what `outbox` holds, and nothing is made ahead then.
     pub fn ready(
         &mut self,
         plan: &Plan,
@@ -102,7 +104,11 @@ impl Server {
     ) -> Result<Handled, NodeFault>
         requires fits { ServingFits plan.now self.old }
         ensures answer { IfOk result (λ answer. (r : ServerStep) × Handles plan.now self.old.state msg.now r × (r.answer ≡ answer)) }
+        ensures ready { OnOk result (IsReady self.new outbox.new msg.now) }
         ensures room { OnOk result (HasRoom self.new outbox.new msg.now) }
+        ensures takes { OnOk result (HasRoomToTake self.new outbox.new) }
+        ensures again { HasRoom self.old outbox.old msg.now → IsOk result }
+        ensures none { OnErr result (self.new.ahead ≡ None) }
         ensures state { self.new.state ≡ self.old.state }
         ensures views { self.new.viewing ≡ self.old.viewing }
         ensures same { HoldsSame outbox.old outbox.new }
@@ -124,6 +130,30 @@ impl Server {
         Ok(handled)
     }
 
+    /// Takes the message that was made ready, for which there is room in `outbox`. What it sends and what it newly decides is added there, and
+    /// behind that the answers to reads of views that are free then. It cannot want memory. Nothing is made ahead then.
+    pub fn take_ready(&mut self, outbox: &mut Outbox) -> Handled
+        requires room { HasRoomToTake self.old outbox.old }
+        ensures step { (plan : Groups) (msg : Message) → ServingFits plan self.old → IsReady self.old outbox.old msg
+            → (r : ServerStep) × (q : ReadStep) × Handles plan self.old.state msg r × AnswersReads plan self.old.viewing msg r q
+            × Shows r q result self.new.state self.new.viewing outbox.old outbox.new }
+        ensures fits { (plan : Groups) → ServingFits plan self.old → ServingFits plan self.new }
+        ensures none { self.new.ahead ≡ None }
+        ensures shard { self.new.state.shard ≡ self.old.state.shard }
+    {
+        take_ready(&mut self.kept, &mut self.views, &mut self.ahead, outbox)
+    }
+
+    /// Gives up what was made ahead, where something was. Takes no memory.
+    pub fn give_up(&mut self)
+        ensures state { self.new.state ≡ self.old.state }
+        ensures views { self.new.viewing ≡ self.old.viewing }
+        ensures none { self.new.ahead ≡ None }
+        ensures fits { (plan : Groups) → ServingFits plan self.old → ServingFits plan self.new }
+    {
+        let_go(&mut self.kept, &mut self.ahead);
+    }
+
     /// Takes a message, finds that it came too late, or ignores it for the first reason that holds. What it sends and what it
     /// newly decides is added to `outbox`, and behind that the answers to reads of views that are free then. `NoMemory` leaves the state,
     /// what is kept for views and what `outbox` holds as they were, so the same call may be made again; it does not come where the room is
@@ -143,20 +173,10 @@ impl Server {
         ensures fits { ServingFits plan.now self.new }
         ensures shard { self.new.state.shard ≡ self.old.state.shard }
     {
-        let (alloc, shard) = (self.alloc, self.shard);
-        let Ok(handled) = handle(
-            alloc,
-            plan,
-            shard,
-            &mut self.kept,
-            &mut self.views,
-            &mut self.ahead,
-            msg,
-            outbox,
-        ) else {
-            return Err(NodeFault::NoMemory);
-        };
-        Ok(handled)
+        match self.ready(plan, msg, outbox) {
+            Ok(_) => Ok(self.take_ready(outbox)),
+            Err(fault) => Err(fault),
+        }
     }
 
     /// Sends again what was asked for and is not known yet. It changes nothing. `NoMemory` leaves what `outbox` holds, so the same
@@ -187,7 +207,7 @@ impl Server {
         ensures state { self.new.state ≡ renewed self.old.state }
         ensures views { self.new.viewing ≡ renewed_viewing self.old.viewing }
         ensures none { self.new.ahead ≡ None }
-        ensures fits { (plan : AnyPlan) → ServingFits plan self.new }
+        ensures fits { (plan : Groups) → ServingFits plan self.new }
     {
         let_go(&mut self.kept, &mut self.ahead);
         renew(self.alloc, &mut self.kept);

@@ -45,7 +45,7 @@ made_of shard k v msg o =
     record { msg = msg; answer = o.answer; state = after shard k o.change; viewing = viewing_then (viewing_of v) o.answer o.sends.ran o.stays; sends = o.sends }
 
 abbrev pub made_ahead : Shard → ServerData → Views → Ahead → MadeAhead
-made_ahead shard k v made = made_of shard k v made.msg made.outcome
+made_ahead shard k v made = made_of shard k v made.msg.value made.outcome
 
 -- what is kept, less what was tried for what was made ahead
 abbrev pub kept_before : ServerData → Option Ahead → ServerData

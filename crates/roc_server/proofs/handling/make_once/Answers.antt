@@ -1,7 +1,8 @@
-use Rattle.std.proofs.Common.{◌∙◌}
+use Rattle.std.proofs.Common.{◌∙◌, sym}
+use Rattle.std.proofs.lemmas.Bool.{false≢true}
 use Rattle.roc_server.specs.Inner.Held.{serving, viewing_of}
 use Rattle.roc_server.specs.Inner.ServerData.{state_of}
-use Rattle.roc_server.proofs.MadeSteps.{groups_from, made_msg, made_once}
+use Rattle.roc_server.proofs.MadeSteps.{found_made, groups_from, made_msg, made_once}
 use Rattle.roc_server.proofs.handling.make_once.Goals as goal
 
 pub make-requires-clause-fits : goal.make-requires-clause-fits
@@ -23,3 +24,6 @@ returns-clause-fits c =
     made_once c.make.result c.args.plan.now c.args.shard c.make.new.kept c.make.new.views c.make.new.ahead (state_of c.args.shard c.let_go.new.kept)
     (serving c.args.shard c.args.kept.now c.args.views.now c.args.ahead.now).state (viewing_of c.args.views.now) c.args.msg.now
     c.make.ensures.made c.make.ensures.some c.make.ensures.none c.make.ensures.state (c.let_go.ensures.state c.args.shard) c.make.ensures.views c.requires.fits.0 c.requires.fits.1
+
+pub returns-clause-again : goal.returns-clause-again
+returns-clause-again c held = absurd (false≢true (sym c.if-is_made.false ∙ found_made c.args.ahead.now c.args.msg.now c.is_made.result c.is_made.ensures.all held))

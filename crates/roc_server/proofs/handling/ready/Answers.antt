@@ -1,12 +1,11 @@
-use Rattle.std.proofs.Common.{◌≡◌, ◌∙◌, false, IfSome, sym, subst}
-use Rattle.std.proofs.lemmas.Result.{IfOk-weaker, on_ok_weaker}
-use Rattle.std.specs.Option.{option_map}
-use Rattle.roc_server.specs.Ahead.{needs_room, IsMadeFor}
+use Rattle.std.proofs.Common.{◌≡◌, ◌∙◌, false, sym, inl}
+use Rattle.roc_server.specs.Ahead.{needs_room}
 use Rattle.roc_server.specs.Inner.AtOnce.{at_once}
-use Rattle.roc_server.specs.Inner.Held.{kept_before, made_ahead, serving, viewing_of}
+use Rattle.roc_server.specs.Inner.Held.{kept_before, serving}
 use Rattle.roc_server.specs.Inner.ServerData.{state_of}
 use Rattle.roc_server.proofs.AtOnce.{handles_at_once}
-use Rattle.roc_server.proofs.MadeSteps.{has_room, held_sound, made_answer}
+use Rattle.roc_server.proofs.GivenOut.{idle_ahead, idle_count, idle_held, idle_state, let_go_fits}
+use Rattle.roc_server.proofs.MadeSteps.{held_sound}
 use Rattle.roc_server.proofs.handling.ready.Goals as goal
 
 pub returns-then-not-needs_room-clause-answer : goal.returns-then-not-needs_room-clause-answer
@@ -16,17 +15,37 @@ returns-then-not-needs_room-clause-answer c =
     let k = kept_before c.args.kept.now c.args.ahead.now in
     (at_once (state_of shard k), handles_at_once c.args.plan.now shard k (held_sound c.args.kept.now c.args.ahead.now c.requires.held) c.args.msg.now kind, c.foreign.ensures (state_of shard k))
 
-pub returns-clause-answer : goal.returns-clause-answer
-returns-clause-answer c =
+pub returns-then-not-needs_room-clause-fits : goal.returns-then-not-needs_room-clause-fits
+returns-then-not-needs_room-clause-fits c =
     let shard = c.args.shard in
-    let k = c.make_once.new.kept in
-    let x = c.make_once.new.views in
-    let ahead = c.make_once.new.ahead in
-    let was = (serving shard c.args.kept.now c.args.views.now c.args.ahead.now).state in
-    let made : IfSome (option_map (made_ahead shard k x) ahead) (IsMadeFor c.args.plan.now was (viewing_of x)) =
-    subst (λ s. IfSome (option_map (made_ahead shard k x) ahead) (IsMadeFor c.args.plan.now s (viewing_of x))) c.make_once.ensures.state c.make_once.ensures.fits.2 in
-    IfOk-weaker c.make_room.result _ _ (λ answer told. made_answer c.args.plan.now shard k x ahead was (viewing_of x) c.args.msg.now answer c.in_ok-make_once.ensures.made made told) c.make_room.ensures.answer
+    let_go_fits c.args.plan.now shard c.let_go.new.kept c.args.views.now c.let_go.new.ahead (serving shard c.args.kept.now c.args.views.now c.args.ahead.now).state c.let_go.ensures.none (c.let_go.ensures.state shard) c.requires.fits.0 c.requires.fits.1
 
-pub returns-clause-room : goal.returns-clause-room
-returns-clause-room c =
-    on_ok_weaker c.make_room.result (λ room. has_room c.args.shard c.make_once.new.kept c.make_once.new.views c.make_once.new.ahead c.make_room.new.outbox c.args.msg.now c.in_ok-make_once.ensures.made room) c.make_room.ensures.room
+pub returns-then-not-needs_room-clause-ready : goal.returns-then-not-needs_room-clause-ready
+returns-then-not-needs_room-clause-ready c =
+    inl (sym c.needs_room.ensures ∙ c.if-not-needs_room.true, idle_ahead c.args.shard c.let_go.new.kept c.args.views.now c.let_go.new.ahead c.let_go.ensures.none)
+
+pub returns-then-not-needs_room-clause-state : goal.returns-then-not-needs_room-clause-state
+returns-then-not-needs_room-clause-state c =
+    idle_state c.args.shard c.let_go.new.kept c.args.views.now c.let_go.new.ahead c.let_go.ensures.none ∙ c.let_go.ensures.state c.args.shard
+
+pub returns-then-not-needs_room-clause-held : goal.returns-then-not-needs_room-clause-held
+returns-then-not-needs_room-clause-held c = idle_held c.args.shard c.let_go.new.kept c.args.views.now c.let_go.new.ahead c.let_go.ensures.none c.let_go.ensures.sound
+
+pub returns-then-not-needs_room-clause-count : goal.returns-then-not-needs_room-clause-count
+returns-then-not-needs_room-clause-count c = idle_count c.args.shard c.let_go.new.kept c.args.views.now c.let_go.new.ahead c.let_go.ensures.none
+
+pub returns-in-Err-clause-fits : goal.returns-in-Err-clause-fits
+returns-in-Err-clause-fits c =
+    let shard = c.args.shard in
+    let_go_fits c.args.plan.now shard c.let_go-in-Err.new.kept c.make_ready.new.views c.let_go-in-Err.new.ahead (serving shard c.make_ready.new.kept c.make_ready.new.views c.make_ready.new.ahead).state
+    c.let_go-in-Err.ensures.none (c.let_go-in-Err.ensures.state shard) c.make_ready.ensures.fits.0 c.make_ready.ensures.fits.1
+
+pub returns-in-Err-clause-state : goal.returns-in-Err-clause-state
+returns-in-Err-clause-state c =
+    idle_state c.args.shard c.let_go-in-Err.new.kept c.make_ready.new.views c.let_go-in-Err.new.ahead c.let_go-in-Err.ensures.none ∙ (c.let_go-in-Err.ensures.state c.args.shard ∙ c.make_ready.ensures.state)
+
+pub returns-in-Err-clause-held : goal.returns-in-Err-clause-held
+returns-in-Err-clause-held c = idle_held c.args.shard c.let_go-in-Err.new.kept c.make_ready.new.views c.let_go-in-Err.new.ahead c.let_go-in-Err.ensures.none c.let_go-in-Err.ensures.sound
+
+pub returns-in-Err-clause-count : goal.returns-in-Err-clause-count
+returns-in-Err-clause-count c = idle_count c.args.shard c.let_go-in-Err.new.kept c.make_ready.new.views c.let_go-in-Err.new.ahead c.let_go-in-Err.ensures.none
