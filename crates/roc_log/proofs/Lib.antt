@@ -4,3 +4,5 @@ pub mod LogLemmas
 pub mod Numerals
 pub mod Spelled
 pub mod Written
+mod Ranges
+mod Appended

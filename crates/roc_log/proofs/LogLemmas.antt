@@ -106,7 +106,8 @@ module _ (program : Workload) (tag : List ℕ) (seen : List Node) (text : List �
   log_is_given log is =
       ap (log_of_lines program tag seen) is.lines
       ∙ ap (λ node. behind_node program tag node is.further) is.node
-      ∙ ap (with_node log.node) (lines_are_read program tag log.node false 2 is.further log.lines is.read)
+      ∙ ap (with_node tag log.node) (lines_are_read program tag log.node false 2 is.further log.lines is.read)
+      ∙ ap (λ t. Ok (record { tag = t; node = log.node; lines = log.lines })) (sym is.tagged)
 
   pub fault_is_given : (line : ℕ) (what : What) → IsLogFault program tag seen text line what → given ≡ Err (line, what)
   fault_is_given line what (no_line none) = ap (log_of_lines program tag seen) none
@@ -114,7 +115,7 @@ module _ (program : Workload) (tag : List ℕ) (seen : List Node) (text : List �
   fault_is_given line what (at_further first before line' behind node reads what' lines right are wrong) =
       ap (log_of_lines program tag seen) lines
       ∙ ap (λ n. behind_node program tag n (before ++ line' ∷ behind)) right
-      ∙ ap (with_node node) (reading_stops program tag node false 2 before line' behind reads what' are wrong)
+      ∙ ap (with_node tag node) (reading_stops program tag node false 2 before line' behind reads what' are wrong)
 
   -- what was given is so
   abbrev pub IsSo : Result Log (ℕ × What) → Type 0
@@ -122,8 +123,8 @@ module _ (program : Workload) (tag : List ℕ) (seen : List Node) (text : List �
   IsSo (Err fault) = IsLogFault program tag seen text fault.0 fault.1
 
   so_behind : (first : List ℕ) (further : List (List ℕ)) (node : Node) → log_lines text ≡ first ∷ further → first_line program.shards seen first ≡ Ok node
-      → (reads : Result (List LogLine) (ℕ × What)) → Told program tag node false 2 further reads → IsSo (with_node node reads)
-  so_behind first further node lines named (Ok reads) told = record { first = first; further = further; lines = lines; node = named; read = told }
+      → (reads : Result (List LogLine) (ℕ × What)) → Told program tag node false 2 further reads → IsSo (with_node tag node reads)
+  so_behind first further node lines named (Ok reads) told = record { tagged = refl; first = first; further = further; lines = lines; node = named; read = told }
   so_behind first further node lines named (Err fault) told =
       subst (λ n. IsLogFault program tag seen text n fault.1) (sym told.place)
       (at_further first told.before told.line told.behind node told.reads fault.1 (lines ∙ ap (λ ls. first ∷ ls) told.parts) named told.right told.wrong)

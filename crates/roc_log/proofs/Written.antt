@@ -162,6 +162,7 @@ lines_are program tag node ended (line ∷ lines) may =
 
 pub log_is_read : (program : Workload) (tag : List ℕ) (seen : List Node) (log : Log) → MayBeWritten program tag seen log → IsLog program tag seen (log_text program log) log
 log_is_read program tag seen log may = record {
+  tagged = may.tagged;
   first = node_words log.node;
   further = map (raw program) log.lines;
   lines = lines_told (raw program) (node_words log.node) log.lines

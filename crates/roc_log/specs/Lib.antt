@@ -1,4 +1,6 @@
 pub mod LogLine
+pub mod Spellable
+pub mod Sent
 pub mod Words
 pub mod Reading
 pub mod Logs

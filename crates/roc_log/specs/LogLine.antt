@@ -40,5 +40,9 @@ log_line_text program line = spaced (first_word line) (other_words program line)
 abbrev pub node_line_text : Node → List ℕ
 node_line_text node = spaced (codes "node") (node_text node ∷ []) ++ 10 ∷ []
 
+-- lines, one after another
+abbrev pub lines_text : Workload → List LogLine → List ℕ
+lines_text program lines = flat_map (log_line_text program) lines
+
 abbrev pub log_text : Workload → Log → List ℕ
-log_text program log = node_line_text log.node ++ flat_map (log_line_text program) log.lines
+log_text program log = node_line_text log.node ++ lines_text program log.lines

@@ -30,8 +30,9 @@ AreLines program tag node ended (line ∷ lines) [] = ⊥
 AreLines program tag node ended (line ∷ lines) (read ∷ reads) =
     (further_line program tag node ended line ≡ Ok read) × AreLines program tag node (ends node read) lines reads
 
--- the bytes are this log, of a node of which there is none among those seen
+-- the bytes are this log with this tag, of a node of which there is none among those seen
 pub record IsLog (program : Workload) (tag : List ℕ) (seen : List Node) (text : List ℕ) (log : Log) : Type 0 where
+  pub tagged : log.tag ≡ tag
   pub first : List ℕ
   pub further : List (List ℕ)
   pub lines : log_lines text ≡ first ∷ further
@@ -93,6 +94,7 @@ MayFollow program tag node ended (line ∷ lines) = IsFalse ended × MayStand pr
 
 -- such lines, of a node that is there and was not seen
 pub record MayBeWritten (program : Workload) (tag : List ℕ) (seen : List Node) (log : Log) : Type 0 where
+  pub tagged : log.tag ≡ tag
   pub there : IsTrue (is_there program.shards log.node)
   pub few_shards : program.shards ≤ 64
   pub unseen : IsFalse (list_any (is_node log.node) seen)

@@ -18,9 +18,10 @@ pub enum LogLine {
     Answer { id: TxnId, reply: Nums },
 }
 
-/// The log of a node: whose it is, which its first line says, and the lines behind.
+/// The log of a node: the tag of its datagrams, whose it is, which its first line says, and the lines behind.
 #[derive(Drop)]
 pub struct Log {
+    pub tag: [u8; 8],
     pub node: Node,
     pub lines: Sequence<LogLine>,
 }

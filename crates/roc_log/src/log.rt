@@ -33,7 +33,11 @@ fn log_of_lines(
     };
     match first_line(alloc, workload.shards(), seen, first) {
         Ok(node) => match further_lines(alloc, workload, tag, node, further) {
-            Ok(lines) => Ok(Log { node, lines }),
+            Ok(lines) => Ok(Log {
+                tag: *tag,
+                node,
+                lines,
+            }),
             Err(fault) => Err(fault),
         },
         Err(fault) => Err(fault.at(1)),

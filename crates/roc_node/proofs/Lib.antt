@@ -1,4 +1,3 @@
 mod Texts
 pub mod Moving
-mod Ranges
 mod Sets

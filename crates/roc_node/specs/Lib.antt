@@ -1,10 +1,8 @@
 pub mod Judgement
-pub mod Spellable
 pub mod Posting
 pub mod Moves
 pub mod NodeEvent
 pub mod Counts
 pub mod NodeLine
 pub mod Losing
-pub mod Inner
 pub mod Setting

@@ -8,7 +8,7 @@ use Rattle.roc_io.specs.Packet.{Packet}
 use Rattle.roc_msg.specs.declared.outbox.Outgoing.{Outgoing}
 use Rattle.roc_wire.specs.declared.header.Header.{Header}
 use Rattle.roc_wire.specs.Spelling.{spelling}
-use Rattle.roc_node.specs.Spellable.{has_spelling}
+use Rattle.roc_log.specs.Spellable.{has_spelling}
 
 -- where each coordinator was last heard, if it was, by number
 abbrev pub Hearsay : Type 0

@@ -3,7 +3,7 @@
 //! [`judge`] tells a delivery, exactly if the bytes are a datagram with the node's tag, from what is skipped and why
 //! (`specs/Judgement.antt`). [`Heard`] keeps where each of sixteen coordinators was last heard, and takes no memory.
 //! [`post`] spells messages and addresses them, in order (`specs/Posting.antt`); one that has no spelling, as
-//! [`has_spelling`] tells (`specs/Spellable.antt`), is not sent. `specs/Moves.antt` has the words in which a node's
+//! `has_spelling` of `roc_log` tells, is not sent. `specs/Moves.antt` has the words in which a node's
 //! loop says what it received over its link and sent over it, in order, and `specs/Losing.antt` what is said of one that
 //! ends early.
 //!
@@ -19,7 +19,6 @@ mod judging;
 mod lines;
 mod posting;
 mod setting;
-mod spellable;
 
 pub use counts::{Counts, IgnoreCounts, SkipCounts};
 pub use heard::Heard;
@@ -27,4 +26,3 @@ pub use judging::{Judged, Skip, judge};
 pub use lines::{NodeLine, append_end, append_line};
 pub use posting::post;
 pub use setting::Setting;
-pub use spellable::has_spelling;

@@ -3,10 +3,11 @@ ghost use Rattle.std.specs.Prelude.{◌≡◌, ◌<◌, ◌++◌, length, IfOk, 
 ghost use Rattle.roc_wire.specs.Fits.{FitsHeader};
 ghost use Rattle.roc_node.specs.Posting.{address_for, packet_to, packets_for};
 
-use crate::{Heard, has_spelling};
+use crate::Heard;
 use roc_base::{NoMemory, Node, Shard};
 use roc_cluster::Cluster;
 use roc_io::{Addr, Datagram};
+use roc_log::has_spelling;
 use roc_msg::Outgoing;
 use roc_wire::{Header, encode};
 use std::alloc::Global;

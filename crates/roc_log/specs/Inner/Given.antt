@@ -61,13 +61,13 @@ lines_read program tag node ended number [] = Ok []
 lines_read program tag node ended number (line ∷ lines) =
     before_lines number (further_line program tag node ended line) (λ read. lines_read program tag node (ends node read) (number + 1) lines)
 
-abbrev pub with_node : Node → Result (List LogLine) (ℕ × What) → Result Log (ℕ × What)
-with_node node (Ok reads) = Ok (record { node = node; lines = reads })
-with_node node (Err fault) = Err fault
+abbrev pub with_node : (tag : List ℕ) → Node → Result (List LogLine) (ℕ × What) → Result Log (ℕ × What)
+with_node tag node (Ok reads) = Ok (record { tag = tag; node = node; lines = reads })
+with_node tag node (Err fault) = Err fault
 
 abbrev pub behind_node : Workload → (tag : List ℕ) → Result Node What → (further : List (List ℕ)) → Result Log (ℕ × What)
 behind_node program tag (Err fault) further = Err (1, fault)
-behind_node program tag (Ok node) further = with_node node (lines_read program tag node false 2 further)
+behind_node program tag (Ok node) further = with_node tag node (lines_read program tag node false 2 further)
 
 abbrev pub log_of_lines : Workload → (tag : List ℕ) (seen : List Node) (lines : List (List ℕ)) → Result Log (ℕ × What)
 log_of_lines program tag seen [] = Err (1, Word)

@@ -4,8 +4,8 @@ ghost use Rattle.std.specs.Int.{w64};
 ghost use Rattle.std.specs.List.{list_all, AllByRecursion};
 ghost use Rattle.roc_wire.specs.Fits.{FitsId, FitsShard, FitsNums, FitsVersions, FitsEdges, FitsFacts, FitsMsg, last_coordinator, most_nums, most_edges};
 ghost use Rattle.roc_msg.specs.Facts.{most_fact_edges};
-ghost use Rattle.roc_node.specs.Inner.InRange.{InRange, AreInRange};
-ghost use Rattle.roc_node.specs.Spellable.{id_in_range, shard_in_range, few_nums, few_versions, edge_in_range, edges_in_range, lists_in_range, facts_in_range, has_spelling};
+ghost use Rattle.roc_log.specs.Inner.InRange.{InRange, AreInRange};
+ghost use Rattle.roc_log.specs.Spellable.{id_in_range, shard_in_range, few_nums, few_versions, edge_in_range, edges_in_range, lists_in_range, facts_in_range, has_spelling};
 
 use roc_base::{Edge, Edges, Nums, Shard, TxnId};
 use roc_depgraph::KnownList;

@@ -10,8 +10,8 @@ use Rattle.roc_base.specs.Edges.{IsEdgeList, comes_before}
 use Rattle.roc_depgraph.specs.declared.known.KnownList.{KnownList}
 use Rattle.roc_msg.specs.Facts.{AreFacts, is_fact_before}
 use Rattle.roc_wire.specs.Fits.{AllAlong, FitsId, FitsEdge, FitsEdges, last_from, FitsFact, room_behind, rises}
-use Rattle.roc_node.specs.Spellable.{lists_in_range, id_in_range, edges_in_range}
-use Rattle.roc_node.specs.Inner.InRange.{InRange, AreInRange}
+use Rattle.roc_log.specs.Spellable.{lists_in_range, id_in_range, edges_in_range}
+use Rattle.roc_log.specs.Inner.InRange.{InRange, AreInRange}
 
 -- each number of a list fits its width
 pub nums_along : (nums : List ℤ) → AllByRecursion (FitsSigned w64) nums → AllAlong (λ (s : Unit {0}) n. FitsSigned w64 n) (λ s n. s) tt nums

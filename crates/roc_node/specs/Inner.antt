@@ -1,2 +1,0 @@
--- What stands here is of private functions alone
-pub mod InRange
