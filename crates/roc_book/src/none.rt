@@ -1,4 +1,4 @@
-// A book for a call that keeps no log.
+//! A book for a call that keeps no log.
 ghost use Rattle.std.specs.Prelude.{◌≡◌, None};
 
 use crate::{Book, Opened};
