@@ -1,24 +1,31 @@
 -- Lines that print alike are equal.
-use Rattle.std.proofs.Common.{◌≡◌, ℕ, ◌+◌, ◌<◌, ℤ, false, List, [], ◌∷◌, ◌++◌, append_assoc, length, FitsSigned, w64, refl, sym, ap, subst, ◌∙◌}
+use Rattle.std.proofs.Common.{◌≡◌, ℕ, ◌+◌, ◌<◌, ℤ, false, List, [], ◌∷◌, ◌++◌, append_assoc, length, Option, Some, None, FitsSigned, w64, refl, sym, ap, subst, ◌∙◌}
 use Rattle.std.specs.List.{AllByRecursion}
 use Rattle.std.specs.Fmt.{decimal, signed_decimal}
 use Rattle.std.specs.Prelude.{codes, drop, ◌==◌, if◌then◌else◌}
 use Rattle.std.proofs.lemmas.Bool.{true≢false, eq-eqb}
+use Rattle.roc_base.specs.declared.node.Node.TheVariants.{Server, Coord}
+use Rattle.roc_base.specs.declared.node.Shard.{Shard}
 use Rattle.roc_base.specs.TxnId.{txn_text}
+use Rattle.roc_base.specs.Node.{node_text}
 use Rattle.roc_program.specs.Program.{Workload}
 use Rattle.roc_program.specs.LookUps.{procedure_name, table_name, columns_of, column_name}
 use Rattle.roc_rows.specs.declared.cell.Cell.{Cell}
 use Rattle.roc_msg.specs.Reason.{reason_text}
-use Rattle.roc_report.specs.Line.{Line, Submit, Busy, Spent, Deliver, Nothing, Tick, Gone, Ignored, Send, Answer, Order, Row, Pending, End}
-use Rattle.roc_report.specs.ReportLine.{AreNames, HasNames, IsSmallCell, IsCellOf, IsReportLine}
-use Rattle.roc_report.specs.Text.{numbers_text, message_text, key_text, cell_text, words_of, lines_text}
-use Rattle.roc_report.proofs.Apart.{numbers_apart, integers_apart}
-use Rattle.roc_report.proofs.Parts.{Digits, Letters, tail_of, cons_append, ids_apart, id_lists_apart, number_lists_apart, keys_apart, nodes_apart, names_apart, reasons_apart, messages_apart}
+use Rattle.roc_report.specs.Line.{Line, Submit, Busy, Spent, Deliver, Nothing, Tick, Stopped, Drain, Draining, NoProc, Skipped, Gone, Ignored, Send, Answer, Order, Row, Pending, End}
+use Rattle.roc_report.specs.ReportLine.{AreNames, HasNames, IsSmallDuring, IsSmallCell, IsCellOf, IsReportLine}
+use Rattle.roc_report.specs.Text.{numbers_text, during_text, message_text, key_text, cell_text, words_of, lines_text}
+use Rattle.roc_report.proofs.Apart.{numbers_apart, begins_apart, integers_apart}
+use Rattle.roc_report.proofs.Parts.{Digits, Letters, tail_of, heads_apart, cons_append, ids_apart, id_lists_apart, number_lists_apart, keys_apart, nodes_apart, names_apart, reasons_apart, messages_apart}
 
--- ---- what tells the forms apart: the first two letters
+-- ---- what tells the forms apart: the first two letters, behind n the third one, and behind dr the sixth
+
+form_behind_d : (second : ℕ) → List ℕ → ℕ
+form_behind_d second (d ∷ e ∷ f ∷ bytes) = if second == 114 then f + 500 else 300
+form_behind_d second bytes = 300
 
 form_of : List ℕ → ℕ
-form_of (a ∷ b ∷ bytes) = if a == 115 then b else a + 200
+form_of (a ∷ b ∷ c ∷ bytes) = if a == 115 then b else if a == 110 then c + 400 else if a == 100 then form_behind_d b bytes else a + 200
 form_of bytes = 0
 
 form : Line → ℕ
@@ -26,8 +33,13 @@ form (Submit id proc args) = 117
 form (Busy coord) = 298
 form (Spent coord) = 112
 form (Deliver number) = 300
-form Nothing = 310
+form Nothing = 510
 form (Tick node) = 316
+form (Stopped shard during) = 116
+form (Drain coord) = 532
+form (Draining coord) = 605
+form (NoProc coord) = 512
+form Skipped = 107
 form Gone = 303
 form (Ignored reason) = 305
 form (Send number message) = 101
@@ -67,18 +79,61 @@ key_digits : (key : List ℤ) (r : List ℕ) → Digits (key_text key ++ (93 ∷
 key_digits [] r = refl
 key_digits (n ∷ key) r = refl
 
+-- ---- stops
+
+during_stops : (d : Option (ℕ × Option ℕ)) (r : List ℕ) → Digits (during_text d ++ (10 ∷ r))
+during_stops None r = refl
+during_stops (Some (k, None)) r = refl
+during_stops (Some (k, Some j)) r = refl
+
+same_shard : (n m : Shard) → Server n ≡ Server m → n ≡ m
+same_shard n m e = cc
+
+same_coord : (n m : ℕ) → Coord n ≡ Coord m → n ≡ m
+same_coord n m e = cc
+
+-- the number of the message, and what is told behind it
+during_apart : (d g : Option (ℕ × Option ℕ)) (r s : List ℕ) → IsSmallDuring d → IsSmallDuring g → during_text d ++ (10 ∷ r) ≡ during_text g ++ (10 ∷ s) → (d ≡ g) × (r ≡ s)
+during_apart None None r s small also e = (refl, tail_of e)
+during_apart None (Some (k, None)) r s small also e = absurd (heads_apart 10 32 r ((decimal k ++ codes " none") ++ (10 ∷ s)) refl e)
+during_apart None (Some (k, Some j)) r s small also e = absurd (heads_apart 10 32 r ((decimal k ++ (32 ∷ decimal j)) ++ (10 ∷ s)) refl e)
+during_apart (Some (k, None)) None r s small also e = absurd (heads_apart 32 10 ((decimal k ++ codes " none") ++ (10 ∷ r)) s refl e)
+during_apart (Some (k, Some j)) None r s small also e = absurd (heads_apart 32 10 ((decimal k ++ (32 ∷ decimal j)) ++ (10 ∷ r)) s refl e)
+during_apart (Some (k, None)) (Some (n, None)) r s small also e =
+    let behind = sym (append_assoc (decimal k) (codes " none") (10 ∷ r)) ∙ tail_of e ∙ append_assoc (decimal n) (codes " none") (10 ∷ s) in
+    let p = numbers_apart k n (codes " none" ++ (10 ∷ r)) (codes " none" ++ (10 ∷ s)) small also refl refl behind in
+    (ap (λ k. Some (k, None)) p.0, ap (drop 6) p.1)
+during_apart (Some (k, None)) (Some (n, Some j)) r s small also e =
+    let behind = sym (append_assoc (decimal k) (codes " none") (10 ∷ r)) ∙ tail_of e ∙ append_assoc (decimal n) (32 ∷ decimal j) (10 ∷ s) in
+    let p = numbers_apart k n (codes " none" ++ (10 ∷ r)) (32 ∷ (decimal j ++ (10 ∷ s))) small also.0 refl refl behind in
+    absurd (begins_apart j 110 (10 ∷ s) (codes "one" ++ (10 ∷ r)) also.1 refl (sym (tail_of p.1)))
+during_apart (Some (k, Some j)) (Some (n, None)) r s small also e =
+    let behind = sym (append_assoc (decimal k) (32 ∷ decimal j) (10 ∷ r)) ∙ tail_of e ∙ append_assoc (decimal n) (codes " none") (10 ∷ s) in
+    let p = numbers_apart k n (32 ∷ (decimal j ++ (10 ∷ r))) (codes " none" ++ (10 ∷ s)) small.0 also refl refl behind in
+    absurd (begins_apart j 110 (10 ∷ r) (codes "one" ++ (10 ∷ s)) small.1 refl (tail_of p.1))
+during_apart (Some (k, Some j)) (Some (n, Some i)) r s small also e =
+    let behind = sym (append_assoc (decimal k) (32 ∷ decimal j) (10 ∷ r)) ∙ tail_of e ∙ append_assoc (decimal n) (32 ∷ decimal i) (10 ∷ s) in
+    let p = numbers_apart k n (32 ∷ (decimal j ++ (10 ∷ r))) (32 ∷ (decimal i ++ (10 ∷ s))) small.0 also.0 refl refl behind in
+    let q = numbers_apart j i (10 ∷ r) (10 ∷ s) small.1 also.1 refl refl (tail_of p.1) in
+    ((λ t. Some (p.0 t, Some (q.0 t))), tail_of q.1)
+
 unlike : (a b : ℕ) → a == b ≡ false → a ≡ b → ⊥
 unlike a b other same = true≢false (sym (eq-eqb a b same) ∙ other)
 
 module _ (program : Workload) (names : HasNames program) where
   formed : (a : Line) (r : List ℕ) → IsReportLine program a → form_of (words_of program a ++ r) ≡ form a
-  unfolding form_of form
+  unfolding form_behind_d form_of form
   formed (Submit id proc args) r is = refl
   formed (Busy coord) r is = refl
   formed (Spent coord) r is = refl
   formed (Deliver number) r is = refl
   formed Nothing r is = refl
   formed (Tick node) r is = refl
+  formed (Stopped shard during) r is = refl
+  formed (Drain coord) r is = refl
+  formed (Draining coord) r is = refl
+  formed (NoProc coord) r is = refl
+  formed Skipped r is = refl
   formed Gone r is = refl
   formed (Ignored reason) r is = refl
   formed (Send number message) r is = refl
@@ -131,9 +186,25 @@ module _ (program : Workload) (names : HasNames program) where
   one_line (Deliver m) (Deliver n) r s is also f e = let p = numbers_apart m n (10 ∷ r) (10 ∷ s) is.small also.small refl refl (ap (drop 8) e) in (ap Deliver p.0, tail_of p.1)
   one_line (Deliver m) b r s is also f e = absurd (unlike 300 (form b) refl f)
   one_line Nothing Nothing r s is also f e = (refl, ap (drop 5) e)
-  one_line Nothing b r s is also f e = absurd (unlike 310 (form b) refl f)
+  one_line Nothing b r s is also f e = absurd (unlike 510 (form b) refl f)
   one_line (Tick n) (Tick m) r s is also f e = let p = nodes_apart n m (10 ∷ r) (10 ∷ s) is.small also.small refl refl (ap (drop 5) e) in (ap Tick p.0, tail_of p.1)
   one_line (Tick n) b r s is also f e = absurd (unlike 316 (form b) refl f)
+  one_line (Stopped n d) (Stopped m g) r s is also f e =
+      let behind = sym (append_assoc (node_text (Server n)) (during_text d) (10 ∷ r)) ∙ ap (drop 5) e ∙ append_assoc (node_text (Server m)) (during_text g) (10 ∷ s) in
+      let shards = nodes_apart (Server n) (Server m) (during_text d ++ 10 ∷ r) (during_text g ++ 10 ∷ s) is.small.0 also.small.0 (during_stops d r) (during_stops g s) behind in
+      let p = during_apart d g r s is.small.1 also.small.1 shards.1 in
+      ((λ i. Stopped (same_shard n m shards.0 i) (p.0 i)), p.1)
+  one_line (Stopped n d) b r s is also f e = absurd (unlike 116 (form b) refl f)
+  one_line (Drain m) (Drain n) r s is also f e =
+      let p = nodes_apart (Coord m) (Coord n) (10 ∷ r) (10 ∷ s) is.small also.small refl refl (ap (drop 6) e) in
+      ((λ i. Drain (same_coord m n p.0 i)), tail_of p.1)
+  one_line (Drain m) b r s is also f e = absurd (unlike 532 (form b) refl f)
+  one_line (Draining m) (Draining n) r s is also f e = let p = numbers_apart m n (10 ∷ r) (10 ∷ s) is.small also.small refl refl (ap (drop 9) e) in (ap Draining p.0, tail_of p.1)
+  one_line (Draining m) b r s is also f e = absurd (unlike 605 (form b) refl f)
+  one_line (NoProc m) (NoProc n) r s is also f e = let p = numbers_apart m n (10 ∷ r) (10 ∷ s) is.small also.small refl refl (ap (drop 7) e) in (ap NoProc p.0, tail_of p.1)
+  one_line (NoProc m) b r s is also f e = absurd (unlike 512 (form b) refl f)
+  one_line Skipped Skipped r s is also f e = (refl, ap (drop 8) e)
+  one_line Skipped b r s is also f e = absurd (unlike 107 (form b) refl f)
   one_line Gone Gone r s is also f e = (refl, ap (drop 5) e)
   one_line Gone b r s is also f e = absurd (unlike 303 (form b) refl f)
   one_line (Ignored a) (Ignored b) r s is also f e =

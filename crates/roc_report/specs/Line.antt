@@ -2,6 +2,7 @@
 use Rattle.std.specs.Prelude.{ℕ, ℤ, Bool, true, false, List, Option, None, if◌then◌else◌}
 use Rattle.roc_base.specs.declared.id.TxnId.{TxnId}
 use Rattle.roc_base.specs.declared.node.Node.{Node}
+use Rattle.roc_base.specs.declared.node.Shard.{Shard}
 use Rattle.roc_base.specs.Edge.{Dependency}
 use Rattle.roc_msg.specs.declared.reason.Reason.{Reason}
 use Rattle.roc_program.specs.declared.piece_id.PieceId.{PieceId}
@@ -41,6 +42,11 @@ pub data Line : Type 0 where
   Deliver : (number : ℕ) → Line
   Nothing : Line
   Tick : (node : Node) → Line
+  Stopped : (shard : Shard) (during : Option (ℕ × Option ℕ)) → Line
+  Drain : (coord : ℕ) → Line
+  Draining : (coord : ℕ) → Line
+  NoProc : (coord : ℕ) → Line
+  Skipped : Line
   Gone : Line
   Ignored : (reason : Reason) → Line
   Send : (number : ℕ) (message : ShownMessage) → Line

@@ -1,5 +1,5 @@
 -- The lines of a report of a program, and names that tell its parts apart: docs/FORMATS.md, "Report"
-use Rattle.std.specs.Prelude.{◌≡◌, ℕ, ◌<◌, ◌^◌, ℤ, FitsSigned, IfSome, List, length}
+use Rattle.std.specs.Prelude.{◌≡◌, ℕ, ◌<◌, ◌^◌, ℤ, FitsSigned, IfSome, List, Option, Some, None, length}
 use Rattle.std.specs.List.{AllByRecursion}
 use Rattle.std.specs.Int.{w64}
 use Rattle.roc_base.specs.declared.id.TxnId.{TxnId}
@@ -10,7 +10,7 @@ use Rattle.roc_lang.specs.Tokens.{IsWord}
 use Rattle.roc_program.specs.Program.{Workload}
 use Rattle.roc_program.specs.LookUps.{procedure_name, table_name, columns_of, column_name}
 use Rattle.roc_rows.specs.declared.cell.Cell.{Cell}
-use Rattle.roc_report.specs.Line.{ShownMessage, Line, Submit, Busy, Spent, Deliver, Nothing, Tick, Gone, Ignored, Send, Answer, Order, Row, Pending, End}
+use Rattle.roc_report.specs.Line.{ShownMessage, Line, Submit, Busy, Spent, Deliver, Nothing, Tick, Stopped, Drain, Draining, NoProc, Skipped, Gone, Ignored, Send, Answer, Order, Row, Pending, End}
 
 -- ---- names
 
@@ -40,6 +40,11 @@ abbrev pub IsSmallNode : Node → Type 0
 IsSmallNode (Server shard) = IsSmall shard.0
 IsSmallNode (Coord number) = IsSmall number
 
+abbrev pub IsSmallDuring : Option (ℕ × Option ℕ) → Type 0
+IsSmallDuring None = Unit {0}
+IsSmallDuring (Some (number, None)) = IsSmall number
+IsSmallDuring (Some (number, Some many)) = IsSmall number × IsSmall many
+
 abbrev pub IsSmallEdge : Dependency → Type 0
 IsSmallEdge d = IsSmallId d.from × IsSmall d.at.0
 
@@ -62,6 +67,11 @@ HasSmallNumbers (Spent coord) = IsSmall coord
 HasSmallNumbers (Deliver number) = IsSmall number
 HasSmallNumbers Nothing = Unit {0}
 HasSmallNumbers (Tick node) = IsSmallNode node
+HasSmallNumbers (Stopped shard during) = IsSmall shard.0 × IsSmallDuring during
+HasSmallNumbers (Drain coord) = IsSmall coord
+HasSmallNumbers (Draining coord) = IsSmall coord
+HasSmallNumbers (NoProc coord) = IsSmall coord
+HasSmallNumbers Skipped = Unit {0}
 HasSmallNumbers Gone = Unit {0}
 HasSmallNumbers (Ignored reason) = Unit {0}
 HasSmallNumbers (Send number message) = IsSmall number × IsSmallMessage message

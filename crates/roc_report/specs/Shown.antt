@@ -7,7 +7,7 @@ use Rattle.roc_msg.specs.declared.msg.Msg.TheVariants as msg
 use Rattle.roc_msg.specs.declared.msg.Envelope.{Envelope}
 use Rattle.roc_msg.specs.Msg.{id_of}
 use Rattle.roc_report.specs.declared.line.ReportLine.{ReportLine}
-use Rattle.roc_report.specs.declared.line.ReportLine.TheVariants.{Submit, Busy, Spent, Deliver, Nothing, Tick, Gone, Ignored, Send, Answer, Order, Row, Pending, End}
+use Rattle.roc_report.specs.declared.line.ReportLine.TheVariants.{Submit, Busy, Spent, Deliver, Nothing, Tick, Stopped, Drain, Draining, NoProc, Skipped, Gone, Ignored, Send, Answer, Order, Row, Pending, End}
 use Rattle.roc_report.specs.declared.line.CheckLine.{CheckLine}
 use Rattle.roc_report.specs.declared.line.CheckLine.TheVariants.{Shards, Proc, Piece, Group, Conflict, Accepted, Apart, Blocked}
 use Rattle.roc_report.specs.Line as pure
@@ -61,6 +61,11 @@ shown (Spent coord) = pure.Spent coord
 shown (Deliver number) = pure.Deliver number
 shown Nothing = pure.Nothing
 shown (Tick node) = pure.Tick node
+shown (Stopped shard during) = pure.Stopped shard during
+shown (Drain coord) = pure.Drain coord
+shown (Draining coord) = pure.Draining coord
+shown (NoProc coord) = pure.NoProc coord
+shown Skipped = pure.Skipped
 shown Gone = pure.Gone
 shown (Ignored reason) = pure.Ignored reason
 shown (Send number sent) = pure.Send number (shown_message sent.now)

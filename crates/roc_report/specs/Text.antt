@@ -1,9 +1,10 @@
 -- The text of each line: docs/FORMATS.md, "Report" and "Text of check"
-use Rattle.std.specs.Prelude.{ℕ, ℤ, Bool, List, [], ◌∷◌, ◌++◌, codes, if◌then◌else◌}
+use Rattle.std.specs.Prelude.{ℕ, ℤ, Bool, List, [], ◌∷◌, ◌++◌, Option, Some, None, codes, if◌then◌else◌}
 use Rattle.std.specs.List.{flat_map}
 use Rattle.std.specs.Option.{option_to_list}
 use Rattle.std.specs.Fmt.{decimal, signed_decimal}
 use Rattle.roc_base.specs.declared.id.TxnId.{TxnId}
+use Rattle.roc_base.specs.declared.node.Node.TheVariants.{Server, Coord}
 use Rattle.roc_base.specs.TxnId.{txn_text}
 use Rattle.roc_base.specs.Node.{node_text}
 use Rattle.roc_base.specs.Edge.{Dependency}
@@ -18,7 +19,7 @@ use Rattle.roc_scgraph.specs.declared.vertex.Instance.{Instance}
 use Rattle.roc_scgraph.specs.declared.vertex.Instance.TheVariants.{First, Second}
 use Rattle.roc_scgraph.specs.Graph.{piece_id}
 use Rattle.roc_report.specs.Line.{MessageKind, Start, StartOk, Commit, CommitOk, Fetch, Known, Stop, Ended, Settled, Read, ReadOk, Drained, Switched, ShownMessage, Line}
-use Rattle.roc_report.specs.Line.{Submit, Busy, Spent, Deliver, Nothing, Tick, Gone, Ignored, Send, Answer}
+use Rattle.roc_report.specs.Line.{Submit, Busy, Spent, Deliver, Nothing, Tick, Stopped, Drain, Draining, NoProc, Skipped, Gone, Ignored, Send, Answer}
 use Rattle.roc_report.specs.Line.{Order, Row, Pending, End, Shards, Proc, Piece, Group, Conflict, Accepted, Apart, Blocked}
 use Rattle.roc_report.specs.Standing.{standing_text}
 
@@ -102,6 +103,12 @@ vertex_text program v = piece_text program (piece_id v) ++ codes "#" ++ instance
 abbrev pub cycle_text : Workload → List Vertex → List ℕ
 cycle_text program cycle = codes ":" ++ flat_map (λ v. spaced (vertex_text program v)) cycle
 
+-- the message at which a server stopped, if any, and how many of those that come of it were sent, where its record was kept
+abbrev pub during_text : Option (ℕ × Option ℕ) → List ℕ
+during_text None = []
+during_text (Some (number, None)) = spaced (decimal number) ++ codes " none"
+during_text (Some (number, Some many)) = spaced (decimal number) ++ spaced (decimal many)
+
 -- a line without its end. What the program does not have has no name.
 abbrev pub words_of : Workload → Line → List ℕ
 words_of program (Submit id proc args) = codes "submit " ++ txn_text id ++ spaced (procedure_name program proc) ++ numbers_text args
@@ -110,6 +117,11 @@ words_of program (Spent coord) = codes "spent " ++ decimal coord
 words_of program (Deliver number) = codes "deliver " ++ decimal number
 words_of program Nothing = codes "none"
 words_of program (Tick node) = codes "tick " ++ node_text node
+words_of program (Stopped shard during) = codes "stop " ++ node_text (Server shard) ++ during_text during
+words_of program (Drain coord) = codes "drain " ++ node_text (Coord coord)
+words_of program (Draining coord) = codes "draining " ++ decimal coord
+words_of program (NoProc coord) = codes "noproc " ++ decimal coord
+words_of program Skipped = codes "skipped"
 words_of program Gone = codes "gone"
 words_of program (Ignored reason) = codes "ignored " ++ reason_text reason
 words_of program (Send number message) = codes "send " ++ decimal number ++ spaced (message_text message)

@@ -1,6 +1,6 @@
 //! A line of a report, as data.
 
-use roc_base::{Node, Nums, TxnId};
+use roc_base::{Node, Nums, Shard, TxnId};
 use roc_msg::{Envelope, Reason};
 use roc_program::PieceId;
 use roc_rows::Cell;
@@ -56,6 +56,17 @@ pub enum ReportLine<'a> {
     Nothing,
     /// A node's tick.
     Tick(Node),
+    /// A stop of a server, at a message or at none: its number, and how many of the messages that come of it were sent, where
+    /// its record was kept.
+    Stopped(Shard, Option<(u64, Option<u32>)>),
+    /// A coordinator is to take no more submissions.
+    Drain(u16),
+    /// A submission refused as draining, by its coordinator.
+    Draining(u16),
+    /// A submission refused since the coordinator has no such procedure.
+    NoProc(u16),
+    /// The message was of another file than its receiver, and was skipped.
+    Skipped,
     /// The message came too late to be taken.
     Gone,
     /// The message was ignored.

@@ -2,7 +2,7 @@
 ghost use Rattle.std.specs.Prelude.{FitsSigned, IfSome, map};
 ghost use Rattle.std.specs.List.{AllByRecursion};
 ghost use Rattle.std.specs.Int.{w64};
-ghost use Rattle.roc_report.specs.ReportLine.{IsSmall, AreSmallIntegers, IsSmallId, IsSmallNode, IsSmallEdge, IsSmallMessage, IsSmallCell, HasSmallNumbers};
+ghost use Rattle.roc_report.specs.ReportLine.{IsSmall, AreSmallIntegers, IsSmallId, IsSmallNode, IsSmallDuring, IsSmallEdge, IsSmallMessage, IsSmallCell, HasSmallNumbers};
 ghost use Rattle.roc_report.specs.Shown.{shown_message, shown};
 
 use crate::ReportLine;
@@ -24,8 +24,15 @@ pub(crate) fn has_small_numbers(line: &ReportLine)
         ReportLine::Busy(coord) => is_small(u64::from(*coord)),
         ReportLine::Spent(coord) => is_small(u64::from(*coord)),
         ReportLine::Deliver(number) => is_small(*number),
-        ReportLine::Nothing | ReportLine::Gone | ReportLine::Ignored(_) => {}
+        ReportLine::Nothing | ReportLine::Skipped | ReportLine::Gone | ReportLine::Ignored(_) => {}
         ReportLine::Tick(node) => is_small_node(*node),
+        ReportLine::Stopped(shard, during) => {
+            is_small_shard(*shard);
+            is_small_during(*during);
+        }
+        ReportLine::Drain(coord) => is_small(u64::from(*coord)),
+        ReportLine::Draining(coord) => is_small(u64::from(*coord)),
+        ReportLine::NoProc(coord) => is_small(u64::from(*coord)),
         ReportLine::Send { number, sent } => {
             is_small(*number);
             is_small_message(sent);
@@ -99,6 +106,19 @@ fn is_small_node(node: Node)
     match node {
         Node::Server(shard) => is_small_shard(shard),
         Node::Coord(number) => is_small(u64::from(number)),
+    }
+}
+
+fn is_small_during(during: Option<(u64, Option<u32>)>)
+    ensures { IsSmallDuring during }
+{
+    match during {
+        None => {}
+        Some((number, None)) => is_small(number),
+        Some((number, Some(many))) => {
+            is_small(number);
+            is_small(u64::from(many));
+        }
     }
 }
 

@@ -6,11 +6,11 @@ ghost use Rattle.roc_program.specs.LookUps.{procedure_name, table_name, column_n
 ghost use Rattle.roc_report.specs.Line.{Row};
 ghost use Rattle.roc_report.specs.ReportLine.{HasSmallNumbers};
 ghost use Rattle.roc_report.specs.Shown.{message_kind, named_by, edges_of, facts_of, shown_message, shown};
-ghost use Rattle.roc_report.specs.Text.{numbers_text, ids_text, tags_text, edges_text, facts_text, message_kind_text, spaced, message_text, key_text, cell_text, words_of, line_text};
+ghost use Rattle.roc_report.specs.Text.{numbers_text, ids_text, tags_text, edges_text, facts_text, message_kind_text, spaced, during_text, message_text, key_text, cell_text, words_of, line_text};
 
 use crate::ReportLine;
 use crate::small::has_small_numbers;
-use roc_base::{Edge, NoMemory, Shard, TxnId};
+use roc_base::{Edge, NoMemory, Node, Shard, TxnId};
 use roc_depgraph::KnownList;
 use roc_msg::{Envelope, Msg};
 use roc_program::Workload;
@@ -52,6 +52,18 @@ fn push_words(text: &mut String, workload: &Workload, line: &ReportLine) -> Resu
         ReportLine::Deliver(number) => write!(text, "deliver {number}"),
         ReportLine::Nothing => text.push_str("none"),
         ReportLine::Tick(node) => write!(text, "tick {node}"),
+        ReportLine::Stopped(shard, during) => {
+            let node = Node::Server(*shard);
+            write!(text, "stop {node}")?;
+            push_during(text, *during)
+        }
+        ReportLine::Drain(coord) => {
+            let node = Node::Coord(*coord);
+            write!(text, "drain {node}")
+        }
+        ReportLine::Draining(coord) => write!(text, "draining {coord}"),
+        ReportLine::NoProc(coord) => write!(text, "noproc {coord}"),
+        ReportLine::Skipped => text.push_str("skipped"),
         ReportLine::Gone => text.push_str("gone"),
         ReportLine::Ignored(reason) => write!(text, "ignored {reason}"),
         ReportLine::Send { number, sent } => push_sent(text, *number, sent),
@@ -73,6 +85,17 @@ fn push_words(text: &mut String, workload: &Workload, line: &ReportLine) -> Resu
             text,
             "end {answered} answered {pending} pending {messages} messages"
         ),
+    }
+}
+
+// Adds the message at which a server stopped, if any, and how many of those that come of it were sent.
+fn push_during(text: &mut String, during: Option<(u64, Option<u32>)>) -> Result<(), AllocError>
+    ensures { OnOk result (string_bytes text.new ≡ string_bytes text.old ++ during_text during) }
+{
+    match during {
+        None => Ok(()),
+        Some((number, None)) => write!(text, " {number} none"),
+        Some((number, Some(many))) => write!(text, " {number} {many}"),
     }
 }
 
