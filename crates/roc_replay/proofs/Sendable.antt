@@ -17,7 +17,7 @@ use Rattle.roc_views.specs.World.{World, first_world}
 use Rattle.roc_views.specs.Fits.{FitsWorld}
 use Rattle.roc_views.specs.Happens.{Outcome, undecided, Happens}
 use Rattle.roc_views.specs.Run.{Stepped, Transition, IsEventOf}
-use Rattle.roc_world.proofs.WorldsFit.{same_count}
+use Rattle.roc_views.proofs.SameNodes.{same_count}
 use Rattle.roc_replay.specs.declared.asked.BoundLine.{BoundLine}
 use Rattle.roc_replay.specs.declared.asked.Wanted.{Wanted}
 use Rattle.roc_replay.specs.declared.asked.Wanted.TheVariants as wanted
