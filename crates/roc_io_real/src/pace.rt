@@ -2,7 +2,7 @@
 //!
 //! A node sends again what is open when a receive is quiet. Where it did so by the clock alone, whatever comes, what is sent for nothing would
 //! grow with what is open, and keep the others from answering. So a link waits longer where it was quiet, up to a bound, and datagrams
-//! earn the shorter wait back. `docs/DECISIONS.md` has the rule in words.
+//! earn the shorter wait back. `docs/NODES.md`, "Turns", has the rule in words.
 use std::time::{Clock, Duration, Instant};
 
 /// The shortest wait for a datagram, and the first, in milliseconds.
