@@ -10,3 +10,5 @@ mod Promoted
 mod Refused
 mod Shortest
 mod Chosen
+mod PieceSets
+mod Gathered

@@ -15,7 +15,9 @@
 mod checking;
 mod fault;
 pub mod laws;
+mod piece_sets;
 mod text;
+mod users;
 
 pub use checking::check;
 pub use fault::CheckFault;

@@ -3,14 +3,17 @@ ghost use Rattle.std.specs.Prelude.{◌≡◌, ◌++◌, ◌<◌, length, map, f
 ghost use Rattle.std.specs.List.{flat_map, range_with_len};
 ghost use Rattle.roc_program.specs.Conflict.{are_in_conflict};
 ghost use Rattle.roc_program.specs.Pieces.{all_pieces};
+ghost use Rattle.roc_program.specs.declared.piece_id.PieceId.{PieceId as Id};
 ghost use Rattle.roc_plan.specs.Groups.{groups_of, group_of};
 ghost use Rattle.roc_plan.specs.Accepted.{is_piece_immediate};
+ghost use Rattle.roc_check.specs.Inner.PieceSets.{holds};
 ghost use Rattle.roc_check.specs.Lines.{procedures_of, standing_of, piece_lines, group_line, group_lines, procedure_lines, conflict_lines, check_lines};
 ghost use Rattle.roc_report.specs.Line.{Conflict};
 ghost use Rattle.roc_report.specs.Text.{lines_text};
 
+use crate::piece_sets::holds;
+use crate::users::{conflicting, users};
 use roc_base::NoMemory;
-use roc_conflict::Columns;
 use roc_plan::{Class, Plan};
 use roc_program::{PieceId, Workload, all_pieces, is_declared_now, piece_count};
 use roc_report::{CheckLine, Standing, append_check};
@@ -147,25 +150,29 @@ fn push_conflicts(
 ) -> Result<(), NoMemory>
     ensures { OnOk result (text.new.items ≡ text.old.items ++ lines_text workload.now (conflict_lines workload.now pieces.now)) }
 {
+    let touched = users(alloc, workload, false)?;
+    let written = users(alloc, workload, true)?;
     for (at, first) in pieces.iter().enumerate() {
-        push_conflicts_of(alloc, text, workload, *first, &pieces[at..])?;
+        let found = conflicting(workload, &touched, &written, *first);
+        push_conflicts_of(alloc, text, workload, *first, &found, &pieces[at..])?;
     }
     Ok(())
 }
 
-// Adds the conflicts of a piece with these.
+// Adds the conflicts of a piece with these, where those that it is in conflict with are found.
 fn push_conflicts_of(
     alloc: Global,
     text: &mut Vec<u8>,
     workload: &Workload,
     first: PieceId,
+    found: &[u16; 64],
     others: &[PieceId],
 ) -> Result<(), NoMemory>
+    requires { (id : Id) → holds found.now id ≡ are_in_conflict workload.now first id }
     ensures { OnOk result (text.new.items ≡ text.old.items ++ lines_text workload.now (map (Conflict first) (filter (are_in_conflict workload.now first) others.now))) }
 {
-    let columns = Columns::of(workload, first);
     for other in others {
-        if columns.conflict(workload, first, *other) {
+        if holds(found, *other) {
             append_check(alloc, text, workload, &CheckLine::Conflict(first, *other))?;
         }
     }
