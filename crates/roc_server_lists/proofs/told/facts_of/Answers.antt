@@ -7,7 +7,7 @@ use Rattle.roc_depgraph.specs.Deps.{entries_of}
 use Rattle.roc_msg.specs.Facts.{front_of_facts}
 use Rattle.roc_msg.proofs.FactFronts.{front_nothing}
 use Rattle.roc_step.specs.Piggyback.{facts_of}
-use Rattle.roc_server_lists.proofs.ToldFacts.{AreBehind, goes_on, behind_none, behind_more, next_before, behind_rest}
+use Rattle.roc_server_lists.proofs.ToldFacts.{AreBehind, goes_on, stops, behind_none, behind_more, next_before, behind_rest}
 use Rattle.roc_server_lists.proofs.told.facts_of.Goals as goal
 
 pub loop-id-preserved : goal.loop-id-preserved
@@ -48,6 +48,18 @@ returns-then-room-eq0 c =
     let f : TxnId → KnownList = λ u. record { of = u; edges = entries_of c.args.known.now u } in
     let front : ℕ → List KnownList = λ n. c.loop-id.facts ++ front_of_facts n c.loop-id.left (map f (drop c.loop-id.id-index c.args.ids.now)) in
     sym (c.loop-id.invariant.whole ∙ ap front c.if-room-eq0.true ∙ append-nil c.loop-id.facts)
+
+pub returns-then-len-left : goal.returns-then-len-left
+returns-then-len-left c =
+    let none : TxnId = record { coord = 0; seq = 0 } in
+    let f : TxnId → KnownList = λ u. record { of = u; edges = entries_of c.args.known.now u } in
+    let all = c.args.ids.now in
+    let i = c.loop-id.id-index in
+    let x = get_or all i none in
+    let long : c.len.result ≡ length (f x).edges = c.len.ensures ∙ ap length c.in_ok-edges.ensures in
+    let too_long : c.loop-id.left < length (f x).edges = subst (λ n. c.loop-id.left < n) long c.if-len-left.true in
+    let add : List KnownList → List KnownList = λ ys. c.loop-id.facts ++ ys in
+    sym (c.loop-id.invariant.whole ∙ ap add (stops f all i c.loop-id.room c.loop-id.left x none c.loop-id-test.true refl too_long) ∙ append-nil c.loop-id.facts)
 
 pub returns : goal.returns
 returns c =
