@@ -69,8 +69,8 @@ module _ (known : List KnownList) (set : List TxnId) (lists : List (List TxnId))
           let is = are.each c has in
           let once = once_from_rising c is.rising in
           let other = another c x h e (λ a b xs same s. (
-            let o : NoneTwice is_txn (a ∷ b ∷ xs) = subst (λ (l : List TxnId). NoneTwice is_txn l) same once in
-            o.0 (subst (λ v. IsListed is_txn (b ∷ xs) v) (sym s) (listed_head is_txn b xs (is_txn-same b))))) in
+          let o : NoneTwice is_txn (a ∷ b ∷ xs) = subst (λ (l : List TxnId). NoneTwice is_txn l) same once in
+          o.0 (subst (λ v. IsListed is_txn (b ∷ xs) v) (sym s) (listed_head is_txn b xs (is_txn-same b))))) in
           elim (is.sound x other.0 h other.1) [
             | inl s ↦ absurd (other.2 s)
             | inr p ↦ joined_chain E x other.0 x p.0 p.1

@@ -20,11 +20,7 @@ use std::alloc::Global;
 
 /// The ids from which a chain of pairs among the ids leads back, rising: the members of all cycles. An id that stands in `ids`
 /// more than once is taken once, and a pair with another id counts for nothing.
-pub fn on_circles(
-    alloc: Global,
-    ids: &[TxnId],
-    pairs: &[Pair],
-) -> Result<Vec<TxnId>, NoMemory>
+pub fn on_circles(alloc: Global, ids: &[TxnId], pairs: &[Pair]) -> Result<Vec<TxnId>, NoMemory>
     ensures { IfOk result (λ found. IsRisingListOf (λ x. Reaches (among ids.now (IsPaired pairs.now)) x x) found.items) }
 {
     let set = rising(alloc, ids)?;
