@@ -3,6 +3,7 @@ from __future__ import annotations
 
 import argparse
 import json
+import re
 import sys
 import time
 from pathlib import Path
@@ -14,6 +15,7 @@ from .state import StateFile
 from .workload import Workload
 
 ANSWERED, LEFT, FAULT = 0, 5, 3
+INTEGER = re.compile(r"-?(?:0|[1-9][0-9]*)")
 
 
 def words() -> argparse.Namespace:
@@ -56,17 +58,23 @@ def tell_recovered(client: Client, timeout: float, as_json: bool) -> bool:
     return is_whole
 
 
+def integer(word: str) -> int:
+    if not INTEGER.fullmatch(word) or len(word) > 20:
+        raise RefusedCall(f"an argument is an integer of 64 bits, in digits, and not {word}")
+    return int(word)
+
+
 def answer_line(client: Client, line: str, timeout: float, as_json: bool) -> tuple[bool, str]:
     """Whether the call of the line was answered, and what to write."""
     name, *arguments = line.split()
     until = time.monotonic() + timeout
     try:
-        call = client.submit(name, *[int(value) for value in arguments], timeout=timeout)
+        call = client.submit(name, *map(integer, arguments), timeout=timeout)
         client.wait(call, until - time.monotonic())
         return True, object_of(call) if as_json else line_of(call)
     except Unanswered as fault:
         return False, json.dumps({"unanswered": str(fault), "shards": fault.shards}) if as_json else f"unanswered {fault}"
-    except (RefusedCall, ValueError) as fault:
+    except RefusedCall as fault:
         return False, json.dumps({"refused": str(fault)}) if as_json else f"refused {fault}"
 
 

@@ -146,11 +146,12 @@ class Commands(unittest.TestCase):
     def test_lines(self) -> None:
         with life(BANK) as servers:
             words = module("call", servers.workload, servers.cluster, "--coord", "2", "--state", f"{servers.folder}/state")
-            asked = "pay 0 1 30\n\n# a comment\nbalances 0 1 2\ntake 1\npay 1 x 2\n"
+            asked = "pay 0 1 30\n\n# a comment\nbalances 0 1 2\ntake 1\npay 1 x 2\npay 0 1 1_0\npay 0 1 5 # five\n"
             plain = subprocess.run(words, input=asked, capture_output=True, text=True, env=environment())
             self.assertEqual(plain.stdout.splitlines()[:2], ["answer 2.0 100 100", "answer 2.1 70 130 100"])
             self.assertTrue(all(line.startswith("refused") for line in plain.stdout.splitlines()[2:]))
-            self.assertEqual((plain.returncode, len(plain.stdout.splitlines())), (5, 4))
+            self.assertEqual((plain.returncode, len(plain.stdout.splitlines())), (5, 6))
+            self.assertIn("in digits, and not x", plain.stdout)
             told = subprocess.run([*words, "--json"], input="balances 0 1 2\n", capture_output=True, text=True, env=environment())
             self.assertEqual(json.loads(told.stdout), {"id": "2.2", "name": "balances", "arguments": [0, 1, 2], "reply": [70, 130, 100]})
             self.assertEqual(told.returncode, 0)

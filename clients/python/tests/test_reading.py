@@ -7,6 +7,8 @@ import tempfile
 import unittest
 from pathlib import Path
 
+from rococo.cluster import addresses
+from rococo.errors import ClusterError
 from rococo.expressions import expression
 from rococo.messages import COMMITOK, SERVER, CommitOk, Edge, Speller, TxnId, Unreadable, answer
 from rococo.workload import Workload, program_path
@@ -35,6 +37,34 @@ class Workloads(unittest.TestCase):
                 with self.subTest(path=path.name, procedure=name):
                     pieces = [piece.name for group in procedure.groups for piece in group.pieces]
                     self.assertEqual(sorted(pieces), sorted(piece.name for piece in procedure.pieces))
+
+
+class Clusters(unittest.TestCase):
+    def test_as_the_program(self) -> None:
+        """A file is read where the program reads it, and refused where the program does."""
+        good = '[[shard]]\nnumber = 0\nhost = "127.0.0.1"\nport = 7100\n'
+        other = good.replace("0\n", "1\n", 1).replace("7100", "7101")
+        changes = [("127.0.0.1", "localhost"), ("127.0.0.1", "127.0.0.01"), ("7101", '"7101"'), ("7101", "0"), ("7101", "65536"), ("7101", "true"),
+                   ("number = 1", "number = 0"), ("number = 1", "number = 2"), ("[[shard]]", "[shard]"), ("port", "name"), ("\nport", "\nname = 1\nport")]
+        texts = [good + other, other + good, good, "", "[shard]\n", "x = 1\n" + good + other, *(good + other.replace(*change) for change in changes)]
+        with tempfile.TemporaryDirectory() as folder:
+            workload, cluster, requests = (Path(folder, name) for name in ("store.rcw", "store.toml", "requests"))
+            workload.write_text("shards 2;\n", encoding="utf-8")
+            requests.write_text("what\n", encoding="utf-8")
+            for text in texts:
+                with self.subTest(text=text):
+                    cluster.write_text(text, encoding="utf-8")
+                    words = [program_path(None), "submit", workload, cluster, requests, "--coord", "0", "--turns", "1"]
+                    is_read = str(requests) in subprocess.run(words, capture_output=True, text=True, check=False).stderr
+                    try:
+                        addresses(cluster, 2)
+                    except ClusterError:
+                        self.assertFalse(is_read)
+                    else:
+                        self.assertTrue(is_read)
+
+    def test_no_file(self) -> None:
+        self.assertRaises(ClusterError, addresses, "no such file", 1)
 
 
 class Expressions(unittest.TestCase):
