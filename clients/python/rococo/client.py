@@ -134,14 +134,17 @@ class Client:
         """Awaits the reply of a call. Raises `Unanswered` where none came in so many seconds; the call stays open."""
         return self.await_reply(call, time.monotonic() + timeout)
 
-    def drain(self, timeout: float = 5.0) -> None:
-        """Awaits the replies of all open calls, and tells the servers that all is answered, so that they forget what they hold of it."""
+    def drain(self, timeout: float = 5.0) -> list[Call]:
+        """Awaits the replies of all open calls, and tells the servers that all is answered, so that they forget what they hold of it.
+
+        Hands out each call with a reply that nobody was given yet, by sequence, those of `recovered` too."""
         until = time.monotonic() + timeout
         while self.core.open:
             if time.monotonic() >= until:
                 raise self.unanswered(min(self.core.open))
             self.turn(until)
         self.send(self.core.marks())
+        return [self.hand_out(self.calls[seq]) for seq in sorted(self.calls)]
 
     def open_calls(self) -> list[Call]:
         """The calls without a reply, by sequence."""
@@ -165,7 +168,8 @@ class Client:
         state = self.file.state
         self.core.next = state.next
         for seq, (name, arguments, reply) in sorted(state.answered.items()):
-            self.recovered.append(Call(TxnId(self.core.number, seq), name, arguments, reply, is_recovered=True))
+            self.calls[seq] = Call(TxnId(self.core.number, seq), name, arguments, reply, is_recovered=True)
+            self.recovered.append(self.calls[seq])
         for seq, (name, arguments) in sorted(state.open.items()):
             self.calls[seq] = Call(TxnId(self.core.number, seq), name, arguments, is_recovered=True)
             self.recovered.append(self.calls[seq])
@@ -176,11 +180,15 @@ class Client:
             if time.monotonic() >= until:
                 raise self.unanswered(call.id.seq)
             self.turn(until)
+        self.hand_out(call)
+        return call.reply
+
+    def hand_out(self, call: Call) -> Call:
+        """Notes that the reply was given to whoever asked. The next save leaves it out: until then another client tells it once more."""
         self.calls.pop(call.id.seq, None)
         if self.file:
-            # The next save leaves it out: until then another client tells it once more, as it could not know that it was given.
             self.file.state.answered.pop(call.id.seq, None)
-        return call.reply
+        return call
 
     def unanswered(self, seq: int) -> Unanswered:
         call, shards = self.calls[seq], self.core.missing(seq)

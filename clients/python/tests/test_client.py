@@ -133,11 +133,30 @@ class States(unittest.TestCase):
             state = f"{servers.folder}/state"
             client = Client(servers.workload, servers.cluster, 0, state)
             call = client.submit("pay", 0, 1, 30)
-            client.drain()
+            while call.reply is None:
+                client.turn(time.monotonic() + 1)
             client.close()
             with Client(servers.workload, servers.cluster, 0, state) as client:
                 self.assertEqual([(it.id, it.reply) for it in client.recovered], [(call.id, [100, 100])])
                 client.wait(client.recovered[0])
+            with Client(servers.workload, servers.cluster, 0, state) as client:
+                self.assertEqual(client.recovered, [])
+
+
+    def test_replies_that_drain_hands_out(self) -> None:
+        """Each once, in the order of the calls, with those that an earlier client left; and the state file does not grow by them."""
+        with life(BANK) as servers:
+            state = f"{servers.folder}/state"
+            with Client(servers.workload, servers.cluster, 0, state) as client:
+                for _ in range(3):
+                    calls = [client.submit("pay", 0, 1, 1) for _ in range(20)]
+                    self.assertEqual(client.drain(), calls)
+                    self.assertEqual((client.drain(), client.calls), ([], {}))
+                left = client.submit("pay", 0, 1, 1)
+            self.assertEqual(list(json.loads(Path(state).read_text(encoding="utf-8"))["answered"]), [])
+            with Client(servers.workload, servers.cluster, 0, state) as client:
+                client.call("pay", 0, 1, 1)
+                self.assertEqual([(it.id, it.is_recovered) for it in client.drain()], [(left.id, True)])
             with Client(servers.workload, servers.cluster, 0, state) as client:
                 self.assertEqual(client.recovered, [])
 
