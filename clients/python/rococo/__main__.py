@@ -14,7 +14,7 @@ from .rescue import left_by
 from .state import StateFile
 from .workload import Workload
 
-ANSWERED, LEFT, FAULT = 0, 5, 3
+ANSWERED, LEFT, FAULT, INTERRUPTED = 0, 5, 3, 130
 INTEGER = re.compile(r"-?(?:0|[1-9][0-9]*)")
 
 
@@ -116,6 +116,9 @@ def main() -> int:
     except (RococoError, OSError) as fault:
         print(fault, file=sys.stderr)
         return FAULT
+    except KeyboardInterrupt:
+        print("interrupted: what is open stays in the state file", file=sys.stderr)
+        return INTERRUPTED
 
 
 if __name__ == "__main__":

@@ -176,6 +176,27 @@ class Commands(unittest.TestCase):
             self.assertEqual(told.returncode, 0)
 
 
+    def test_interrupted(self) -> None:
+        """A call that waits when the command is interrupted is taken up by the next one."""
+        with life(BANK) as servers:
+            absent = servers.file("absent.toml", cluster_text([servers.ports[0], *free_ports(2)]))
+            state = f"{servers.folder}/state"
+            words = module("call", servers.workload, absent, "--coord", "2", "--state", state, "--timeout", "60")
+            run = subprocess.Popen(words, stdin=subprocess.PIPE, stdout=subprocess.PIPE, stderr=subprocess.PIPE, text=True, env=environment())
+            assert run.stdin
+            run.stdin.write("pay 0 1 30\n")
+            run.stdin.flush()
+            while not Path(state).exists():
+                time.sleep(0.01)
+            run.send_signal(signal.SIGINT)
+            told = run.communicate()
+            self.assertEqual((run.returncode, told), (130, ("", "interrupted: what is open stays in the state file\n")))
+            words = module("call", servers.workload, servers.cluster, "--coord", "2", "--state", state)
+            told = subprocess.run(words, input="balances 0 1 2\n", capture_output=True, text=True, env=environment())
+            self.assertEqual(told.stdout, "answer 2.1 70 130 100\n")
+            self.assertEqual(told.stderr, "recovered 2.0 pay 0 1 30: answer 2.0 100 100\n")
+
+
 class Rescues(unittest.TestCase):
     def rescued(self, servers: Life, output: str) -> None:
         words = module("rescue", servers.workload, servers.cluster, "--coord", "4", output)
