@@ -18,7 +18,7 @@ from .nodes import Life, cluster_text, environment, free_ports, life
 from .recorder import Proxy
 
 BEGUN = 300
-TRANSFERS = int(os.environ.get("ROCOCO_TRANSFERS", "1600"))
+TRANSFERS = int(os.environ.get("ROCOCO_TRANSFERS", "800"))
 
 
 def module(*words: str) -> list[str]:
