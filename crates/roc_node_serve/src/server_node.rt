@@ -117,6 +117,22 @@ fn take_message(
     take_step(alloc, setting, server_node, msg)
 }
 
+// A message that came, which is let go here.
+fn take_delivery(
+    alloc: Global,
+    setting: Setting<'_>,
+    server_node: &mut ServerNode,
+    msg: Msg,
+) -> Result<TurnOutput, NoMemory>
+    requires fits { ServingFits setting.plan.now server_node.old.server }
+    requires header { FitsHeader setting.header.now }
+    requires cluster { length setting.cluster.now ≡ setting.plan.now.program.shards }
+    ensures leads { IfOk result (Leads (TakesMessage (setting_of setting.entry) (bare server_node.old) (is_stop msg) msg) server_node.new) }
+    ensures fits { OnOk result (ServingFits setting.entry.plan.now server_node.new.server) }
+{
+    take_message(alloc, setting, server_node, &msg)
+}
+
 /// A datagram from an address.
 pub fn take_datagram(
     alloc: Global,
@@ -135,7 +151,7 @@ pub fn take_datagram(
     match judge(alloc, setting.header.tag, bytes) {
         Ok(Judged::Delivery(sender, msg)) => {
             server_node.heard.hear(sender.from, from);
-            take_message(alloc, setting, server_node, &msg)
+            take_delivery(alloc, setting, server_node, msg)
         }
         Ok(Judged::Skipped(skip)) => {
             server_node.counts.skip(skip);
