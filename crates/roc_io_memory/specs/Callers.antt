@@ -36,10 +36,10 @@ last_name (First answer) first second = first
 last_name (Second answer) first second = second
 
 -- what stopped the reads is no Ok
-abbrev pub IsStopped : TwoRead → Type 0
-IsStopped Both = Unit {0}
-IsStopped (First answer) = answer ≢ Ok
-IsStopped (Second answer) = answer ≢ Ok
+abbrev pub IsStoppedRead : TwoRead → Type 0
+IsStoppedRead Both = Unit {0}
+IsStoppedRead (First answer) = answer ≢ Ok
+IsStoppedRead (Second answer) = answer ≢ Ok
 
 -- the second buffer: as a read fills it, or empty where the second read was not made
 abbrev pub FillsSecond : Option Read → ℕ → List ℕ → Type 0

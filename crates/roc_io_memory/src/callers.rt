@@ -3,7 +3,7 @@ ghost use Rattle.std.specs.Prelude.{◌≡◌, ℕ, ◌≤◌, List, Option, Non
 ghost use Rattle.roc_io.specs.Cause.{HasCause, Rose};
 ghost use Rattle.roc_io.specs.Observed.{AddsIf};
 ghost use Rattle.roc_io.specs.Files.{Reads, Fills};
-ghost use Rattle.roc_io_memory.specs.Callers.{two_failed, first_answer, second_answer, last_name, IsStopped, FillsSecond, drain_failed, Drains, WaitsAll};
+ghost use Rattle.roc_io_memory.specs.Callers.{two_failed, first_answer, second_answer, last_name, IsStoppedRead, FillsSecond, drain_failed, Drains, WaitsAll};
 
 use roc_io::{Arrival, Child, ChildWait, Datagram, Files, Link, Read, Spawner};
 use std::alloc::Global;
@@ -30,7 +30,7 @@ pub fn read_two<F: Files>(
 ) -> TwoRead
     ensures cause { HasCause (two_failed result) (F.faults files.old) (F.faults files.new) }
     ensures failed { AddsIf (two_failed result) (F.failed_names files.old) (F.failed_names files.new) (last_name result names.entry.0.now names.entry.1.now) }
-    ensures stopped { IsStopped result }
+    ensures stopped { IsStoppedRead result }
     ensures first_fills { Fills (first_answer result) limit first.new.items }
     ensures second_fills { FillsSecond (second_answer result) limit second.new.items }
 

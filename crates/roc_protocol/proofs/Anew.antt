@@ -19,7 +19,7 @@ use Rattle.roc_protocol.specs.Run.{Stepped}
 use Rattle.roc_protocol.specs.Beside.{IsRunBeside}
 use Rattle.roc_protocol.specs.Inner.Given.{LogLaws, SerialLaws, StoreLaws}
 use Rattle.roc_protocol.proofs.Idle.{run_idle}
-use Rattle.roc_protocol.proofs.Worlds.{submissions_from}
+use Rattle.roc_protocol.proofs.AcceptedSubmissions.{submissions_from}
 use Rattle.roc_protocol.proofs.Counted.{run_counted}
 use Rattle.roc_protocol.proofs.Named.{shard_below}
 use Rattle.roc_protocol.proofs.Serial.{order_serial}

@@ -33,7 +33,7 @@ use Rattle.roc_protocol.proofs.Means.{entry_run, Means, IsOther}
 use Rattle.roc_protocol.proofs.Gone.{here_stays}
 use Rattle.roc_protocol.proofs.Submissions.{AreSubmissions}
 use Rattle.roc_protocol.proofs.Idle.{IsUsed, run_idle}
-use Rattle.roc_protocol.proofs.Worlds.{IsLogged}
+use Rattle.roc_protocol.proofs.Logged.{IsLogged}
 use Rattle.roc_protocol.proofs.Serial as serial
 use Rattle.roc_protocol.proofs.Transactions.{transaction_or_none, HasTransaction, NoTransaction}
 use Rattle.std.proofs.lemmas.Bool.{cases_lt}

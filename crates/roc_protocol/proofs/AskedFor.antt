@@ -1,5 +1,5 @@
 -- In every world who is told of a list has asked for it
-use Rattle.std.proofs.Common.{ℕ, ℤ, ◌-◌, List, [], ◌∷◌, Option, Some, None, sym, ap, subst, ◌∙◌, arith, inl, inr}
+use Rattle.std.proofs.Common.{ℕ, ℤ, ◌-◌, List, [], ◌∷◌, Option, Some, None, sym, ap, subst, ◌∙◌, arith, inl, inr, ◌≡◌}
 use Rattle.roc_sequence.specs.Lists.{Has}
 use Rattle.roc_sequence.proofs.Members.{has_at}
 use Rattle.roc_base.specs.declared.id.TxnId.{TxnId}
@@ -11,7 +11,7 @@ use Rattle.roc_msg.specs.declared.msg.Msg.TheVariants.{StartOk, ReadOk}
 use Rattle.roc_msg.specs.declared.msg.Envelope.{Envelope}
 use Rattle.roc_msg.specs.declared.outbox.Outgoing.{Outgoing}
 use Rattle.roc_plan.specs.Groups.{Plan}
-use Rattle.roc_step.specs.State.{answered, ServerState}
+use Rattle.roc_step.specs.State.{answered, ServerState, ServerStep}
 use Rattle.roc_step.specs.Step as server
 use Rattle.roc_coord.specs.declared.transaction.Transaction.{Transaction}
 use Rattle.roc_coord.specs.declared.transaction.TakenStart.{TakenStart}
@@ -21,19 +21,23 @@ use Rattle.roc_coord.specs.Submit.{new_transaction, next_id, accepted}
 use Rattle.roc_audit.specs.declared.entry.Entry.TheVariants.{Submitted}
 use Rattle.roc_protocol.specs.Aside.{transaction_tick_sends}
 use Rattle.roc_protocol.specs.declared.event.Event.{Event}
-use Rattle.roc_protocol.specs.declared.event.Event.TheVariants.{Submit, Deliver, Tick}
+use Rattle.roc_protocol.specs.declared.event.Event.TheVariants.{Submit, Deliver, Tick, Stop}
 use Rattle.roc_protocol.specs.Beginnings.{Beginning, begun_server}
-use Rattle.roc_protocol.specs.World.{World, mark_delivered}
-use Rattle.roc_protocol.specs.Happens.{Outcome, answer_entries, IsReceived}
+use Rattle.roc_protocol.specs.World.{World, mark_delivered, at_server}
+use Rattle.roc_protocol.specs.Happens.{Outcome, answer_entries, IsReceived, IsSentTo}
 use Rattle.roc_protocol.specs.Aside.{IsNoRead}
 use Rattle.roc_protocol.specs.Run.{Stepped}
 use Rattle.roc_protocol.specs.Beside.{Moves, IsRunBeside, beside_begins, beside_goes_on}
 use Rattle.roc_protocol.proofs.Fetches.{FetchedFor, fetched_none, fetched_no_read, message_fetches, tick_fetches, IsAskedFor, HasAsked, served_asked, coordinated_asked, comes_asked}
 use Rattle.roc_protocol.proofs.Gathered.{IsGathered, IsRound, Tells, message_gathered, tick_gathered, submission_gathered}
 use Rattle.roc_protocol.proofs.Firsts.{found_at}
-use Rattle.roc_protocol.proofs.Worlds.{Submitting, is_refused, is_accepted, submitting}
+use Rattle.roc_protocol.proofs.AcceptedSubmissions.{Submitting, is_refused, is_accepted, submitting}
 use Rattle.roc_protocol.proofs.Submissions.{IsNoReadOk}
 use Rattle.roc_protocol.proofs.KeptAside.{kept_aside}
+use Rattle.roc_step.specs.Restarts.{cut_short}
+use Rattle.roc_protocol.proofs.Stops.{by_stop}
+use Rattle.roc_protocol.proofs.Stopping.{take_has, fewer_fetches}
+use Rattle.std.specs.Prelude.{slice_get}
 
 -- ---- what a coordinator sends, whatever it was told
 
@@ -84,6 +88,16 @@ step_asked plan w o (Some (Deliver k)) v (m, some, there, h) = go m.to (o.sent m
     go (Coord n) f (s, at, e) = subst (λ (v : Outcome). HasAsked v.world) (sym e) (coordinated_asked plan (mark_delivered w k) (comes_asked plan w o k) n (after_message plan s m.msg).state (after_message plan s m.msg).sends (answer_entries (after_message plan s m.msg).answer) (message_round plan s m.msg (fetched_none (IsAskedFor w.servers) m.msg (Coord n) f)))
 step_asked plan w o (Some (Tick (Server shard))) v (s, there, e) = subst (λ (v : Outcome). HasAsked v.world) (sym e) (served_asked plan w o shard.0 s there (answered s (server.tick_sends s)) (tick_fetches plan (IsAskedFor w.servers) s (o.askers shard.0 s there)))
 step_asked plan w o (Some (Tick (Coord n))) v (s, there, e) = subst (λ (v : Outcome). HasAsked v.world) (sym e) (coordinated_asked plan w o n s (transaction_tick_sends plan s) [] (tick_round plan s))
+step_asked plan w o (Some (Stop shard during)) v x = by_stop plan w shard.0 HasAsked o (λ k m sent. comes_asked plan w o k) cut again during v x
+  where
+    cut : (k many : ℕ) (m : Envelope) (s : ServerState) (r : ServerStep) → IsSentTo w.sent k shard.0 m → slice_get w.servers shard.0 ≡ Some s → server.Handles plan s m.msg r → HasAsked (at_server (mark_delivered w k) shard.0 (cut_short many r))
+    cut k many m s r sent at step =
+        let f = subst (FetchedFor (IsAskedFor w.servers) m.msg) sent.to (o.sent m (has_at w.sent (k - 1) m sent.there)) in
+        served_asked plan (mark_delivered w k) (comes_asked plan w o k) shard.0 s at (cut_short many r)
+        (fewer_fetches plan (IsAskedFor w.servers) s r _ (take_has many r.sends) (message_fetches plan (IsAskedFor w.servers) s ((comes_asked plan w o k).askers shard.0 s at) m.msg (Server shard) r step f))
+
+    again : (v : World) (s : ServerState) → HasAsked v → slice_get v.servers shard.0 ≡ Some s → HasAsked (at_server v shard.0 (answered s (server.tick_sends s)))
+    again v s p there = served_asked plan v p shard.0 s there (answered s (server.tick_sends s)) (tick_fetches plan (IsAskedFor v.servers) s (p.askers shard.0 s there))
 
 pub run_asked : (plan : Plan) (start : Beginning) (coords : ℕ) (steps : List Stepped) (w : World) → IsRunBeside plan start coords steps w → HasAsked w
 run_asked plan start coords steps w beside_begins =

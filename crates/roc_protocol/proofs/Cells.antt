@@ -25,7 +25,7 @@ use Rattle.roc_audit.specs.History.{WasSubmitted, WasAnswered}
 use Rattle.roc_audit.specs.Witness.{submitted_call, submitted_calls}
 use Rattle.roc_protocol.specs.PlanAssumptions.{IsSchemeOf, HasSchemesFrom}
 use Rattle.roc_protocol.specs.declared.event.Event.{Event}
-use Rattle.roc_protocol.specs.declared.event.Event.TheVariants.{Submit, Deliver, Tick}
+use Rattle.roc_protocol.specs.declared.event.Event.TheVariants.{Submit, Deliver, Tick, Stop}
 use Rattle.roc_protocol.specs.Beginnings.{Beginning, IsBeginning, begun_server}
 use Rattle.roc_protocol.specs.World.{World, mark_delivered}
 use Rattle.roc_protocol.specs.Happens.{Outcome, IsReceived}
@@ -35,10 +35,12 @@ use Rattle.roc_protocol.specs.Inner.Given.{LogLaws, SerialLaws, StoreLaws}
 use Rattle.roc_protocol.proofs.Means.{Began}
 use Rattle.roc_protocol.proofs.Changed.{get-set_here, get-set_other}
 use Rattle.roc_protocol.proofs.Idle.{IsIdle, run_idle}
-use Rattle.roc_protocol.proofs.Worlds.{Submitting, is_refused, is_accepted, submitting, IsLogged, ordered_submitted}
+use Rattle.roc_protocol.proofs.AcceptedSubmissions.{Submitting, is_refused, is_accepted, submitting}
+use Rattle.roc_protocol.proofs.Logged.{IsLogged, ordered_submitted}
 use Rattle.roc_protocol.proofs.Witness.{calls_are}
 use Rattle.roc_protocol.proofs.Serial as serial
 use Rattle.roc_protocol.proofs.Transactions.{transaction_or_none}
+use Rattle.roc_protocol.proofs.Stops.{by_stop}
 
 -- each that was submitted was answered
 abbrev pub AreAllAnswered : World → Type 0
@@ -148,6 +150,8 @@ step_servers plan w count h (Some (Deliver k)) o (m, some, there, c) = go m.to c
     go (Coord n) (s, at, e) = subst (λ (o : Outcome). HasAll o.world.servers count) (sym e) h
 step_servers plan w count h (Some (Tick (Server shard))) o (s, there, e) = subst (λ (o : Outcome). HasAll o.world.servers count) (sym e) (all_set w.servers count shard.0 s s there h)
 step_servers plan w count h (Some (Tick (Coord n))) o (s, there, e) = subst (λ (o : Outcome). HasAll o.world.servers count) (sym e) h
+step_servers plan w count h (Some (Stop shard during)) o x =
+    by_stop plan w shard.0 (λ v. HasAll v.servers count) h (λ k m sent. h) (λ k many m s r sent there handles. all_set w.servers count shard.0 s r.state there h) (λ v s p there. all_set v.servers count shard.0 s s there p) during o x
 
 all_servers : (plan : Plan) (start : Beginning) (coords : ℕ) (steps : List Stepped) (w : World) → IsRunBeside plan start coords steps w → HasAll w.servers plan.program.shards
 all_servers plan start coords steps w beside_begins = all_ranged (begun_server start) 0 plan.program.shards

@@ -26,7 +26,7 @@ use Rattle.roc_audit.specs.declared.entry.Entry.TheVariants.{Submitted, Answered
 use Rattle.roc_audit.specs.History.{WasSubmitted, WasAnswered}
 use Rattle.roc_audit.proofs.Histories.{submitted_front}
 use Rattle.roc_protocol.specs.declared.event.Event.{Event}
-use Rattle.roc_protocol.specs.declared.event.Event.TheVariants.{Submit, Deliver, Tick}
+use Rattle.roc_protocol.specs.declared.event.Event.TheVariants.{Submit, Deliver, Tick, Stop}
 use Rattle.roc_protocol.specs.Beginnings.{Beginning, IsBeginning, begun_coord, begun_world}
 use Rattle.roc_protocol.specs.Aside.{after_transaction}
 use Rattle.roc_protocol.specs.World.{World, mark_delivered, at_coord}
@@ -41,10 +41,11 @@ use Rattle.roc_protocol.proofs.Firsts.{found_at}
 use Rattle.roc_protocol.proofs.KeptAside.{IsKeptAside, kept_aside}
 use Rattle.roc_protocol.proofs.SubmissionEnds as ends
 use Rattle.roc_protocol.proofs.Submissions.{AreSubmissions, keeps_number, unused}
-use Rattle.roc_protocol.proofs.Worlds.{submissions_from}
+use Rattle.roc_protocol.proofs.AcceptedSubmissions.{submissions_from}
 use Rattle.roc_protocol.proofs.Once.{OfPending, of_pending}
 use Rattle.roc_protocol.proofs.Tells.{all_kept, fewer, told_more, was_told, answer_out, submission_in, answered_has, left_by, ids_left, unanswered_left}
 use Rattle.roc_protocol.proofs.Thinned.{IsThinned, nothing, thinned_length, thinned_both, thinned_filter}
+use Rattle.roc_protocol.proofs.Stops.{stop_keeps}
 
 -- ---- the ids that coordinators keep, of whatever kind, and the history of these
 
@@ -303,6 +304,7 @@ step_counted nexts plan w subs ha k (Some (Deliver j)) o (m, some, there, h) = g
         (of_kept s r.answer (of_pending plan s m.msg no_read)))
 step_counted nexts plan w subs ha k (Some (Tick (Server shard))) o (s, there, e) = same_count nexts w o.world (ap (λ (o : Outcome). o.world.coords) e) (ap (λ (o : Outcome). o.world.history) e) k
 step_counted nexts plan w subs ha k (Some (Tick (Coord n))) o (s, there, e) = subst (λ (o : Outcome). IsCounted nexts o.world) (sym e) (by_answer nexts w k n s there s _ answer.Done (omega arith) (k.few n s there).0 refl (k.thinned n s there) tt)
+step_counted nexts plan w subs ha k (Some (Stop shard during)) o x = let q = stop_keeps plan w shard.0 during o x in same_count nexts w o.world q.1 q.0 k
 
 pub run_counted : (plan : Plan) (start : Beginning) → IsBeginning plan start → (coords : ℕ) (steps : List Stepped) (w : World) → IsRunBeside plan start coords steps w → IsCounted start.nexts w
 run_counted plan start begins coords steps w beside_begins =

@@ -37,7 +37,7 @@ use Rattle.roc_protocol.proofs.Gone.{IsGone}
 
 -- ---- places in a network that grows
 
-front_was : {A : Type 0} (k : ℕ) (a : A) (xs ys : List A) → k < length xs → slice_get (xs ++ ys) k ≡ Some a → slice_get xs k ≡ Some a
+pub front_was : {A : Type 0} (k : ℕ) (a : A) (xs ys : List A) → k < length xs → slice_get (xs ++ ys) k ≡ Some a → slice_get xs k ≡ Some a
 front_was k a [] ys l e = absurd (omega arith)
 front_was zero a (x ∷ xs) ys l e = e
 front_was (suc k) a (x ∷ xs) ys l e = front_was k a xs ys (omega arith) e

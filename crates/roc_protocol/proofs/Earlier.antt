@@ -24,7 +24,7 @@ use Rattle.roc_step.specs.Below.{is_ended}
 use Rattle.roc_audit.specs.Order.{noted, noted_one}
 use Rattle.roc_protocol.specs.Aside.{after_transaction}
 use Rattle.roc_protocol.specs.declared.event.Event.{Event}
-use Rattle.roc_protocol.specs.declared.event.Event.TheVariants.{Submit, Deliver, Tick}
+use Rattle.roc_protocol.specs.declared.event.Event.TheVariants.{Submit, Deliver, Tick, Stop}
 use Rattle.roc_protocol.specs.PlanAssumptions.{HasSchemesFrom}
 use Rattle.roc_protocol.specs.Beginnings.{Beginning, IsBeginning}
 use Rattle.roc_protocol.specs.World.{World, mark_delivered}
@@ -37,7 +37,8 @@ use Rattle.roc_protocol.proofs.Means.{run_of, Means}
 use Rattle.roc_protocol.proofs.Starting.{shard_number}
 use Rattle.roc_protocol.proofs.Idle.{run_idle, idle_mark}
 use Rattle.roc_protocol.proofs.TakesOn.{submission_none}
-use Rattle.roc_protocol.proofs.Worlds.{Submitting, is_refused, is_accepted, submitting}
+use Rattle.roc_protocol.proofs.Stops.{by_stop, stop_takes}
+use Rattle.roc_protocol.proofs.AcceptedSubmissions.{Submitting, is_refused, is_accepted, submitting}
 use Rattle.roc_protocol.proofs.Serial.{S, asked, logged, sound}
 use Rattle.roc_protocol.proofs.Transactions.{transaction_or_none}
 use Rattle.roc_protocol.proofs.Marks.{IsMark}
@@ -69,6 +70,8 @@ order_goes_on plan w (Some (Deliver k)) o (m, some, there, h) = go m.to h
     go (Coord n) (s, at, e) = subst (λ (o : Outcome). Continues w.order o.world.order) (sym e) (same_order w)
 order_goes_on plan w (Some (Tick (Server shard))) o (s, there, e) = subst (λ (o : Outcome). Continues w.order o.world.order) (sym e) (same_order w)
 order_goes_on plan w (Some (Tick (Coord n))) o (s, there, e) = subst (λ (o : Outcome). Continues w.order o.world.order) (sym e) (same_order w)
+order_goes_on plan w (Some (Stop shard during)) o x =
+    by_stop plan w shard.0 (λ v. Continues w.order v.order) (same_order w) (λ k m sent. same_order w) (λ k many m s r sent there handles. noted_goes_on w.order r.decided) (λ v s p there. p) during o x
 
 -- ---- what was taken stands in it
 
@@ -101,6 +104,13 @@ module _ (plan : Plan) (c : List TxnId) (t : TxnId) (member : Has t c) where
       go (Coord n) (s, at, e) = absurd (subst (λ (o : Outcome). Has c o.components) e has)
   taken_noted w (Some (Tick (Server shard))) o (s, there, e) k = absurd (subst (λ (o : Outcome). Has c o.components) e k)
   taken_noted w (Some (Tick (Coord n))) o (s, there, e) k = absurd (subst (λ (o : Outcome). Has c o.components) e k)
+  taken_noted w (Some (Stop shard during)) o x k = elim (stop_takes plan w shard.0 during o x) [
+    | inl none ↦ absurd (subst (Has c) none.0 k)
+    | inr q ↦
+        (let taken : Has c q.step.components = subst (λ (o : Outcome). Has c o.components) q.is k in
+        subst (λ (o : Outcome). IsListed is_txn o.world.order t) (sym q.is)
+        (noted_all q.step.decided w.order t (subst (Has t) (sym (decided_are plan q.state q.message.msg q.step q.handles)) (has_flat_map (λ c. c) t c q.step.components taken member))))
+  ]
 
   pub taken_ordered : (start : Beginning) (coords : ℕ) (steps : List Stepped) (w : World) → IsRunBeside plan start coords steps w → (x : Stepped) → Has x steps → Has c x.outcome.components → IsListed is_txn w.order t
   taken_ordered start coords _ _ beside_begins x h k = absurd h

@@ -18,7 +18,7 @@ use Rattle.roc_whole.specs.Serial as whole
 use Rattle.roc_law_log.specs.Scheme.{Scheme, IsSoundScheme}
 use Rattle.roc_law_log.specs.Log.{Log}
 use Rattle.roc_step.specs.declared.started.StartedGroup.{StartedGroup}
-use Rattle.roc_step.specs.State.{answered, find_group, ServerState}
+use Rattle.roc_step.specs.State.{answered, find_group, ServerState, ServerStep}
 use Rattle.roc_step.specs.Step as server
 use Rattle.roc_coord.specs.State.{CoordState}
 use Rattle.roc_coord.specs.Step.{after_message}
@@ -29,11 +29,11 @@ use Rattle.roc_audit.specs.History.{WasSubmitted}
 use Rattle.roc_step.proofs.SameIds.{ids_of}
 use Rattle.roc_protocol.specs.Aside.{transaction_tick_sends}
 use Rattle.roc_protocol.specs.declared.event.Event.{Event}
-use Rattle.roc_protocol.specs.declared.event.Event.TheVariants.{Submit, Deliver, Tick}
+use Rattle.roc_protocol.specs.declared.event.Event.TheVariants.{Submit, Deliver, Tick, Stop}
 use Rattle.roc_protocol.specs.PlanAssumptions.{IsSchemeOf, HasSchemesFrom}
 use Rattle.roc_protocol.specs.Beginnings.{Beginning, IsBeginning, begun_server, begun_coord}
-use Rattle.roc_protocol.specs.World.{World, sent_by, mark_delivered, at_coord}
-use Rattle.roc_protocol.specs.Happens.{Outcome, answer_entries, IsReceived, Ticks}
+use Rattle.roc_protocol.specs.World.{World, sent_by, mark_delivered, at_coord, at_server}
+use Rattle.roc_protocol.specs.Happens.{Outcome, answer_entries, IsReceived, Ticks, IsSentTo}
 use Rattle.roc_protocol.specs.Run.{Stepped}
 use Rattle.roc_protocol.specs.Beside.{Moves, IsRunBeside, beside_begins, beside_goes_on}
 use Rattle.roc_protocol.specs.Final.{lists_in, IsUnionIn, IsFinalIn}
@@ -45,7 +45,9 @@ use Rattle.roc_protocol.proofs.Gathered.{IsRound, KeepsGathered, Tells, message_
 use Rattle.roc_protocol.proofs.Networks.{IsStartOkOf, found_is, IsToldHere, IsPlacedOn, Good, Told, Calls, told_facts, IsNetworked, one_startok, holds_there, starts_there, gathered_good, lists_after, told_later, holds_later, served_networked}
 use Rattle.roc_protocol.proofs.Firsts.{found_at}
 use Rattle.roc_protocol.proofs.Idle.{run_idle, idle_mark}
-use Rattle.roc_protocol.proofs.Worlds.{comes_logged, Submitting, is_refused, is_accepted, submitting, Agrees, IsLogged, submissions_from}
+use Rattle.roc_protocol.proofs.AcceptedSubmissions.{Submitting, is_refused, is_accepted, submitting, submissions_from}
+use Rattle.roc_protocol.proofs.Logged.{comes_logged, Agrees, IsLogged}
+use Rattle.roc_protocol.proofs.Worlds.{cut_logged, again_logged}
 use Rattle.roc_protocol.proofs.Onward.{agrees_before}
 use Rattle.roc_protocol.proofs.Witness.{run_logged}
 use Rattle.roc_protocol.proofs.KeptAside.{kept_aside}
@@ -54,6 +56,9 @@ use Rattle.roc_protocol.proofs.Serial as serial
 use Rattle.roc_protocol.proofs.Transactions.{transaction_or_none, HasTransaction}
 use Rattle.roc_protocol.proofs.Served.{StartsAre}
 use Rattle.roc_protocol.proofs.Marks.{IsMark}
+use Rattle.roc_step.specs.Restarts.{cut_short}
+use Rattle.roc_protocol.proofs.Stops.{by_stop}
+use Rattle.roc_protocol.proofs.Stopping.{take_has, fewer_good}
 
 module _ (plan : Plan) (asked : TxnId → whole.Call) (S : Scheme) (start : Beginning) (is : IsSchemeOf plan asked S) (laws : LogLaws S start.store) where
   module _ (w : World) (log : Log) (o : IsLogged plan asked S start is laws w log) (nw : IsNetworked plan asked S start is laws w) where
@@ -133,6 +138,9 @@ module _ (plan : Plan) (asked : TxnId → whole.Call) (S : Scheme) (start : Begi
         (submission_gathered plan Goods (Told plan asked S start is laws w.sent) (Calls plan asked S start is laws) (told_facts plan asked S start is laws w.sent) s (λ x h. nw.taken n s there x h) (gathered_good plan asked S start is laws w log o nw) proc args
         (g.proc (next_id s) proc args (has_right (Submitted (next_id s) proc args) w.history more (inl refl)))))
 
+  abbrev IsKnownIn : World → Type 0
+  IsKnownIn v = (c : Log) × IsLogged plan asked S start is laws v c × IsNetworked plan asked S start is laws v
+
   step_networked : (w : World) (log : Log) → IsLogged plan asked S start is laws w log → IsNetworked plan asked S start is laws w → (e : Option Event) (v : Outcome) → Moves plan w e v → Agrees asked v.world → IsNetworked plan asked S start is laws v.world
   step_networked w log o nw None v (inl h) fits = subst (λ (v : Outcome). IsNetworked plan asked S start is laws v.world) (sym h) nw
   step_networked w log o nw None v (inr x) fits =
@@ -144,6 +152,28 @@ module _ (plan : Plan) (asked : TxnId → whole.Call) (S : Scheme) (start : Begi
   step_networked w log o nw (Some (Deliver k)) v (m, some, there, h) fits =
       receive_networked (mark_delivered w k) log (comes_logged plan asked S start is laws w log o k) (comes_networked w log o nw k) m (has_at w.sent (k - 1) m there) m.to refl v h
   step_networked w log o nw (Some (Tick node)) v h fits = tick_networked w log o nw node v h
+  step_networked w log o nw (Some (Stop shard during)) v x fits = (by_stop plan w shard.0 IsKnownIn (log, o, nw) (λ k m sent. (log, comes_logged plan asked S start is laws w log o k, comes_networked w log o nw k)) cut again during v x).2
+    where
+      cut : (k many : ℕ) (m : Envelope) (s : ServerState) (r : ServerStep) → IsSentTo w.sent k shard.0 m → slice_get w.servers shard.0 ≡ Some s → server.Handles plan s m.msg r → IsKnownIn (at_server (mark_delivered w k) shard.0 (cut_short many r))
+      cut k many m s r sent at step =
+          let has = has_at w.sent (k - 1) m sent.there in
+          let u = mark_delivered w k in
+          let l = comes_logged plan asked S start is laws w log o k in
+          let n = comes_networked w log o nw k in
+          let y = cut_logged plan asked S start is laws w log o k many shard.0 m s r sent at step in (
+            y.0,
+            y.1,
+            served_networked plan asked S start is laws u log l n shard.0 s at (cut_short many r)
+                (fewer_good plan (Good plan asked S start is laws w.sent) (IsPlacedOn plan asked S start is laws log shard.0) s r _ (take_has many r.sends)
+                (message_good plan (Good plan asked S start is laws w.sent) (IsPlacedOn plan asked S start is laws log shard.0) s (holds_there plan asked S start is laws u log l n shard.0 s at) m.msg r step (nw.lists m has) (starts_there plan asked S start is laws u log l n m has shard.0 sent.to))),
+          )
+
+      again : (v : World) (s : ServerState) → IsKnownIn v → slice_get v.servers shard.0 ≡ Some s → IsKnownIn (at_server v shard.0 (answered s (server.tick_sends s)))
+      again v s (c, l, n) there = (
+        c,
+        again_logged plan asked S start is laws v c l shard.0 s there,
+        served_networked plan asked S start is laws v c l n shard.0 s there (answered s (server.tick_sends s)) (tick_good plan (Good plan asked S start is laws v.sent) (IsPlacedOn plan asked S start is laws c shard.0) s (holds_there plan asked S start is laws v c l n shard.0 s there)),
+      )
 
   module _ (stores : StoreLaws) (begins : IsBeginning plan start) where
     pub run_networked : (coords : ℕ) (steps : List Stepped) (w : World) → IsRunBeside plan start coords steps w → Agrees asked w → IsNetworked plan asked S start is laws w

@@ -1,6 +1,6 @@
 -- The first component, and the last one, that a server took with a transaction, as a run goes on
-use Rattle.std.proofs.Common.{◌≡◌, ◌≢◌, ◌-◌, List, [], ◌∷◌, ◌++◌, refl, sym, ap, subst, ◌∙◌, ◌⊎◌, inl, inr, append_assoc, Some}
-use Rattle.std.specs.Prelude.{slice_get}
+use Rattle.std.proofs.Common.{◌≡◌, ◌≢◌, ℕ, ◌-◌, List, [], ◌∷◌, ◌++◌, Option, Some, None, refl, sym, ap, subst, ◌∙◌, ◌⊎◌, inl, inr, append_assoc}
+use Rattle.std.specs.Prelude.{slice_get, option_map}
 use Rattle.roc_sequence.specs.Lists.{Has}
 use Rattle.roc_sequence.proofs.Members.{same_there, has_left, has_right, has_more}
 use Rattle.roc_base.specs.declared.id.TxnId.{TxnId}
@@ -8,10 +8,13 @@ use Rattle.roc_base.specs.declared.node.Shard.{Shard}
 use Rattle.roc_base.specs.declared.node.Node.TheVariants.{Server}
 use Rattle.roc_msg.specs.declared.msg.Envelope.{Envelope}
 use Rattle.roc_protocol.specs.Run.{Stepped}
-use Rattle.roc_protocol.specs.Forgotten.{IsTakenAt, IsFirstTaken, IsLastTaken}
+use Rattle.roc_protocol.specs.declared.event.Event.{Event}
+use Rattle.roc_protocol.specs.declared.event.Event.TheVariants.{Deliver, Stop}
+use Rattle.roc_protocol.specs.declared.event.Kept.{Kept}
+use Rattle.roc_protocol.specs.Forgotten.{Brings, delivers, stops_at, IsTakenAt, IsFirstTaken, IsLastTaken}
 
 -- where an element stands in a list with one more at its end: it is that one, or it stood there
-at_end : {A : Type 0} (xs front behind : List A) (x y : A) → xs ++ x ∷ [] ≡ front ++ y ∷ behind
+pub at_end : {A : Type 0} (xs front behind : List A) (x y : A) → xs ++ x ∷ [] ≡ front ++ y ∷ behind
     → ((xs ≡ front) × (x ≡ y) × (behind ≡ [])) ⊎ ((rest : List A) × (xs ≡ front ++ y ∷ rest) × (behind ≡ rest ++ x ∷ []))
 at_end [] [] behind x y e = inl (refl, cc, cc)
 at_end [] (z ∷ front) behind x y e = absurd (none front (cc))
@@ -31,10 +34,23 @@ at_end {A} (a ∷ xs) (z ∷ front) behind x y e =
       | inr k ↦ inr (k.0, (λ i. head i ∷ k.1 i), k.2)
     ]
 
+-- the message that an event brings
+abbrev brought : Option Event → Option ℕ
+brought (Some (Deliver k)) = Some k
+brought (Some (Stop shard during)) = option_map (λ (p : ℕ × Kept). p.0) during
+brought e = None
+
+brought_is : (e : Option Event) (k : ℕ) → Brings e k → brought e ≡ Some k
+brought_is e k (delivers n) = refl
+brought_is e k (stops_at shard n many) = refl
+
+pub brings_one : (e : Option Event) (k j : ℕ) → Brings e k → Brings e j → k ≡ j
+brings_one e k j a b = let both : Some k ≡ Some j = sym (brought_is e k a) ∙ brought_is e j b in cc
+
 -- a step is of one server
 pub taken_once : (x : Stepped) (m n : Shard) (c d : List TxnId) → IsTakenAt x m c → IsTakenAt x n d → m ≡ n
 taken_once x m n c d a b =
-    let at : a.k ≡ b.k = cc in
+    let at : a.k ≡ b.k = brings_one x.event a.k b.k a.brings b.brings in
     let same = same_there x.outcome.world.sent (b.k - 1) a.message b.message (subst (λ k. slice_get x.outcome.world.sent (k - 1) ≡ Some a.message) at a.is) b.is in
     let to : a.message.to ≡ b.message.to = ap (λ (m : Envelope). m.to) same in
     let one : Server m ≡ Server n = sym a.to ∙ (to ∙ b.to) in

@@ -27,19 +27,22 @@ use Rattle.roc_coord.specs.Marks.{watermark, ended_sends}
 use Rattle.roc_coord.specs.State.{CoordState}
 use Rattle.roc_protocol.specs.Aside.{transaction_tick_sends}
 use Rattle.roc_protocol.specs.declared.event.Event.{Event}
-use Rattle.roc_protocol.specs.declared.event.Event.TheVariants.{Submit, Deliver, Tick}
+use Rattle.roc_protocol.specs.declared.event.Event.TheVariants.{Submit, Deliver, Tick, Stop}
 use Rattle.roc_protocol.specs.declared.event.Seen.TheVariants as seen
 use Rattle.roc_protocol.specs.Beginnings.{Beginning, IsBeginning, begun_server, begun_coord, begun_world, next_in}
 use Rattle.roc_protocol.specs.World.{World, sent_by, mark_delivered, at_server, at_coord}
-use Rattle.roc_protocol.specs.Happens.{Outcome, IsReceived, server_seen}
+use Rattle.roc_protocol.specs.Happens.{Outcome, IsReceived, server_seen, IsSentTo}
 use Rattle.roc_protocol.specs.Run.{Stepped}
 use Rattle.roc_protocol.specs.Beside.{Moves, IsRunBeside, beside_begins, beside_goes_on}
 use Rattle.roc_protocol.proofs.Changed.{get-set_here, get-set_other, get-set_cases}
 use Rattle.roc_protocol.proofs.Firsts.{found_at}
 use Rattle.roc_protocol.proofs.KeptAside.{kept_aside, aside_onward}
 use Rattle.roc_protocol.proofs.Marks.{IsMark, IsMarkOf, mark_sent, mark_next, ended_cases}
-use Rattle.roc_protocol.proofs.Worlds.{Submitting, is_refused, is_accepted, submitting}
+use Rattle.roc_protocol.proofs.AcceptedSubmissions.{Submitting, is_refused, is_accepted, submitting}
 use Rattle.roc_protocol.proofs.Transactions.{NoTransaction}
+use Rattle.roc_step.specs.Restarts.{cut_short}
+use Rattle.roc_protocol.proofs.Stops.{by_stop}
+use Rattle.roc_protocol.proofs.Stopping.{take_none}
 
 -- its sequence was used before the run began, or in it
 abbrev pub IsUsed : Beginning → List CoordState → TxnId → Type 0
@@ -196,6 +199,22 @@ module _ (plan : Plan) (none : NoTransaction plan) (start : Beginning) where
       let quiet : transaction_tick_sends plan s ≡ ended_sends plan s = ap (λ l. flat_map (sent_again plan) l ++ ended_sends plan s) (i.coords n s there) in
       subst (λ (o : Outcome). IsIdle plan start o.world) (sym e)
       (idle_coord plan start w i n s s there refl refl (omega arith) (transaction_tick_sends plan s) (λ out h. mark_sent plan s out (subst (Has out) quiet h)))
+  step_idle w i (Some (Stop shard during)) o x = by_stop plan w shard.0 (IsIdle plan start) i (λ k m sent. come k) cut again during o x
+    where
+      come : (k : ℕ) → IsIdle plan start (mark_delivered w k)
+      come k = record { sent = i.sent; history = i.history; order = i.order; servers = i.servers; numbers = i.numbers; coords = i.coords; nexts = i.nexts }
+
+      cut : (k many : ℕ) (m : Envelope) (s : ServerState) (r : ServerStep) → IsSentTo w.sent k shard.0 m → slice_get w.servers shard.0 ≡ Some s → server.Handles plan s m.msg r → IsIdle plan start (at_server (mark_delivered w k) shard.0 (cut_short many r))
+      cut k many m s r sent there step =
+          let t = i.sent m (has_at w.sent (k - 1) m sent.there) in
+          let h = subst (λ msg. server.Handles plan s msg r) t.is step in
+          subst (λ r. IsIdle plan start (at_server (mark_delivered w k) shard.0 (cut_short many r))) (sym h.is)
+          (idle_server plan start (mark_delivered w k) (come k) shard.0 s there (cut_short many (after_ended s t.coord t.mark)) (idle_hears plan start w i shard.0 s there t.coord t.mark t.used) (take_none many) refl)
+
+      again : (v : World) (s : ServerState) → IsIdle plan start v → slice_get v.servers shard.0 ≡ Some s → IsIdle plan start (at_server v shard.0 (answered s (server.tick_sends s)))
+      again v s i there =
+          let quiet : server.tick_sends s ≡ [] = ap (λ l. map (fetch_from s.shard) (filter (λ a. not (is_known s.lists.known a.id)) l)) (i.servers shard.0 s there).asked in
+          idle_server plan start v i shard.0 s there (answered s (server.tick_sends s)) (i.servers shard.0 s there) quiet refl
 
   pub run_idle : IsBeginning plan start → (coords : ℕ) (steps : List Stepped) (w : World) → IsRunBeside plan start coords steps w → IsIdle plan start w
   run_idle begins coords steps w beside_begins =

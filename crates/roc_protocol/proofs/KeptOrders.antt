@@ -17,7 +17,7 @@ use Rattle.roc_audit.specs.History.{WasAnswered, IsAnsweredBefore}
 use Rattle.roc_protocol.specs.Aside.{after_transaction}
 use Rattle.roc_audit.specs.Witness.{serial_reply_from, IsSerialWitnessFrom}
 use Rattle.roc_protocol.specs.declared.event.Event.{Event}
-use Rattle.roc_protocol.specs.declared.event.Event.TheVariants.{Submit, Deliver, Tick}
+use Rattle.roc_protocol.specs.declared.event.Event.TheVariants.{Submit, Deliver, Tick, Stop}
 use Rattle.roc_protocol.specs.PlanAssumptions.{HasSchemesFrom}
 use Rattle.roc_protocol.specs.Beginnings.{Beginning, IsBeginning}
 use Rattle.roc_protocol.specs.World.{World, mark_delivered}
@@ -28,8 +28,10 @@ use Rattle.roc_protocol.specs.Kept.{ran_in, KeepsWhatRan}
 use Rattle.roc_protocol.specs.Inner.Given.{LogLaws, SerialLaws, StoreLaws}
 use Rattle.roc_protocol.proofs.Changed.{get-set_here, get-set_other}
 use Rattle.roc_protocol.proofs.Idle.{run_idle}
-use Rattle.roc_protocol.proofs.Worlds.{Submitting, is_refused, is_accepted, submitting, ordered_submitted}
+use Rattle.roc_protocol.proofs.AcceptedSubmissions.{Submitting, is_refused, is_accepted, submitting}
+use Rattle.roc_protocol.proofs.Logged.{ordered_submitted}
 use Rattle.roc_protocol.proofs.TakesOn.{submission_none}
+use Rattle.roc_protocol.proofs.Stops.{by_stop, stop_takes}
 use Rattle.roc_protocol.proofs.Witness.{ran_more, replies}
 use Rattle.roc_protocol.proofs.WhatRan.{from_log, to_log}
 use Rattle.roc_protocol.proofs.Serial as serial
@@ -61,6 +63,8 @@ server_stays plan w (Some (Deliver k)) o (m, some, there, c) n h = go m.to c
     go (Coord k) (s, at, e) = subst (λ (o : Outcome). HasServer o.world n) (sym e) h
 server_stays plan w (Some (Tick (Server shard))) o (s, there, e) n h = subst (λ (o : Outcome). HasServer o.world n) (sym e) (set_there w.servers shard.0 n s s h.0 there h.1)
 server_stays plan w (Some (Tick (Coord k))) o (s, there, e) n h = subst (λ (o : Outcome). HasServer o.world n) (sym e) h
+server_stays plan w (Some (Stop shard during)) o x n h =
+    by_stop plan w shard.0 (λ v. HasServer v n) h (λ k m sent. h) (λ k many m s r sent there handles. set_there w.servers shard.0 n s r.state h.0 there h.1) (λ v s p there. set_there v.servers shard.0 n s s p.0 there p.1) during o x
 
 ran_here : (plan : Plan) (w : World) (e : Option Event) (o : Outcome) → Moves plan w e o → (q : RanAt) → Has q o.ran → HasServer w q.shard
 ran_here plan w None o (inl c) q h = absurd (subst (λ (o : Outcome). Has q o.ran) c h)
@@ -76,6 +80,12 @@ ran_here plan w (Some (Deliver k)) o (m, some, there, c) q h = go m.to c
     go (Coord k) (s, at, e) = absurd (subst (λ (o : Outcome). Has q o.ran) e h)
 ran_here plan w (Some (Tick (Server shard))) o (s, there, e) q h = absurd (subst (λ (o : Outcome). Has q o.ran) e h)
 ran_here plan w (Some (Tick (Coord k))) o (s, there, e) q h = absurd (subst (λ (o : Outcome). Has q o.ran) e h)
+ran_here plan w (Some (Stop shard during)) o x q h = elim (stop_takes plan w shard.0 during o x) [
+  | inl none ↦ absurd (subst (Has q) none.1 h)
+  | inr c ↦
+      (let y = from_has_map (ran_at shard.0) q c.step.ran (subst (λ (o : Outcome). Has q o.ran) c.is h) in
+      (c.state, subst (λ (q : RanAt). slice_get w.servers q.shard ≡ Some c.state) (sym y.2) c.there))
+]
 
 ran_there : (plan : Plan) (start : Beginning) (coords : ℕ) (steps : List Stepped) (w : World) → IsRunBeside plan start coords steps w → (q : RanAt) → Has q (ran_in steps) → HasServer w q.shard
 ran_there plan start coords steps w beside_begins q h = absurd h

@@ -30,16 +30,20 @@ pub mod Coordinators
 mod Rounds
 mod Replies
 pub mod Changed
-mod FirstTaken
+pub mod FirstTaken
 mod KeepsTaken
 mod TakesOn
 mod Explains
 pub mod Served
+pub mod Stopping
+pub mod Stops
 mod NoStarts
 mod Coordinated
 mod AsideSteps
 pub mod Submissions
 pub mod Firsts
+pub mod AcceptedSubmissions
+pub mod Logged
 pub mod Worlds
 pub mod Onward
 mod TakenRuns
@@ -75,6 +79,8 @@ mod Outstanding
 mod Taken
 mod OutstandingSteps
 mod Undelivered
+pub mod Counting
+mod Deliveries
 mod Ongoing
 mod OngoingRuns
 mod Liveness
@@ -86,6 +92,7 @@ mod HeardLists
 mod Takes
 pub mod Transactions
 mod Delivered
+mod StoppedHearing
 mod Hearing
 mod Quieted
 mod Ordered

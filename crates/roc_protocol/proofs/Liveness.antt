@@ -1,5 +1,5 @@
 -- A transaction whose messages are delivered and heard is asked to commit, and answered
-use Rattle.std.proofs.Common.{◌≡◌, ◌≢◌, ℕ, ℤ, zero, suc, ◌<◌, ◌==◌, true, List, [], ◌∷◌, Some, length, refl, sym, ap, subst, ◌∙◌, inl, inr, arith, is_some}
+use Rattle.std.proofs.Common.{◌≡◌, ◌≢◌, ℕ, ℤ, zero, suc, ◌<◌, ◌==◌, true, List, [], ◌∷◌, Some, length, refl, sym, ap, subst, ◌∙◌, inl, inr, arith, is_some, Option, map}
 use Rattle.std.proofs.lemmas.Bool.{false≢true, eqb-true}
 use Rattle.std.specs.Prelude.{slice_get}
 use Rattle.roc_merge_groups.proofs.Elements.{has_range}
@@ -39,7 +39,7 @@ use Rattle.roc_protocol.proofs.Rounds.{told}
 use Rattle.roc_protocol.proofs.Coordinators.{there, number_below}
 use Rattle.roc_protocol.proofs.Served.{StartsAre}
 use Rattle.roc_protocol.proofs.Idle.{run_idle, idle_mark}
-use Rattle.roc_protocol.proofs.Worlds.{IsLogged}
+use Rattle.roc_protocol.proofs.Logged.{IsLogged}
 use Rattle.roc_protocol.proofs.Serial as serial
 use Rattle.roc_protocol.proofs.Pending.{IsPending}
 use Rattle.roc_protocol.proofs.PendingRuns.{run_pending}
@@ -50,13 +50,16 @@ use Rattle.roc_protocol.proofs.Ongoing.{IsOngoing, whole_out}
 use Rattle.roc_protocol.proofs.OngoingRuns.{AreTaken, run_ongoing}
 use Rattle.roc_protocol.proofs.Transactions.{transaction_or_none, HasTransaction}
 use Rattle.roc_protocol.proofs.Marks.{IsMark}
+use Rattle.roc_protocol.specs.declared.event.Event.{Event}
+use Rattle.roc_protocol.specs.Quiet.{WasDelivered, Counts}
+use Rattle.roc_protocol.proofs.Deliveries.{counts_delivered}
 
-module _ (plan : Plan) (asked : TxnId → whole.Call) (S : Scheme) (start : Beginning) (is : IsSchemeOf plan asked S) (laws : LogLaws S start.store) (sound : IsSoundScheme S) (w : World) (log : Log) (l : IsLogged plan asked S start is laws w log) (g : IsOngoing plan w) (a : AreTaken w) where
+module _ (plan : Plan) (asked : TxnId → whole.Call) (S : Scheme) (start : Beginning) (is : IsSchemeOf plan asked S) (laws : LogLaws S start.store) (sound : IsSoundScheme S) (events : List (Option Event)) (w : World) (was : (k : ℕ) → Counts events w.sent k → WasDelivered w k) (log : Log) (l : IsLogged plan asked S start is laws w log) (g : IsOngoing plan w) (a : AreTaken w) where
   i : LogInvariants S start.store log
   i = laws.holds log l.means.reached
 
   -- a pending transaction whose messages are delivered and heard
-  module _ (c : CoordState) (x : Transaction) (at : slice_get w.coords x.id.coord ≡ Some c) (has : Has x c.pending) (heard : StartsHeard w x.id) (delivered : AreDelivered w x.id) where
+  module _ (c : CoordState) (x : Transaction) (at : slice_get w.coords x.id.coord ≡ Some c) (has : Has x c.pending) (heard : StartsHeard events w x.id) (delivered : AreDelivered events w x.id) where
     abbrev groups : List ℕ
     groups = S.behaviour.groups x.id
 
@@ -71,7 +74,7 @@ module _ (plan : Plan) (asked : TxnId → whole.Call) (S : Scheme) (start : Begi
 
     -- what is said to it in the network was taken
     is_taken : (m : Envelope) → Has m w.sent → id_of m.msg ≡ Some x.id → m.to ≡ Coord x.id.coord → IsTakenBy c.pending m.msg
-    is_taken m h id to = let k = number_of w.sent m h in a.each k.0 x.id.coord m c k.1 (delivered.each k.0 m k.1 id) to at
+    is_taken m h id to = let k = number_of w.sent m h in a.each k.0 x.id.coord m c k.1 (was (suc k.0) (delivered.each k.0 m k.1 id)) to at
 
     -- a group that was asked to start has its startok
     heard_of : (h : ℕ) → is_some (find_start h x.starts) ≡ true → Started h
@@ -115,7 +118,7 @@ module _ (plan : Plan) (asked : TxnId → whole.Call) (S : Scheme) (start : Begi
         started_below (suc (place_of (is_group_number h) groups)) h (omega arith) listed)
 
     -- each shard has said that it is done
-    all_done : CommitsHeard w x.id → all_committed x ≡ true
+    all_done : CommitsHeard events w x.id → all_committed x ≡ true
     all_done said =
         has_every (λ s. has_commitok s x.commitoks) x.asked
         (λ s k.
@@ -125,26 +128,26 @@ module _ (plan : Plan) (asked : TxnId → whole.Call) (S : Scheme) (start : Begi
         let to = (subst (λ msg. Means plan asked S start log msg done.1.to) done.3 (l.means.messages done.1 done.2)).1 in
         subst (IsTakenBy c.pending) done.3 (is_taken done.1 done.2 (ap id_of done.3) to) x has refl)
 
-    never_done : CommitsHeard w x.id → ⊥
+    never_done : CommitsHeard events w x.id → ⊥
     never_done said = false≢true (sym (held.waits all_heard) ∙ all_done said)
 
   -- unless it is answered, each delivered start of it has its startok
   abbrev IsHeardOf : TxnId → Type 0
-  IsHeardOf t = ((reply : List ℤ) → ¬ Has (Answered t reply) w.history) → StartsHeard w t
+  IsHeardOf t = ((reply : List ℤ) → ¬ Has (Answered t reply) w.history) → StartsHeard events w t
 
   -- where it was answered its commits were sent before, and where it is pending they were sent as the last startok came
-  submitted_out : IsPending plan w → (t : TxnId) → WasSubmitted w.history t → IsHeardOf t → AreDelivered w t → CommitsAreOut w t
+  submitted_out : IsPending plan w → (t : TxnId) → WasSubmitted w.history t → IsHeardOf t → AreDelivered events w t → CommitsAreOut w t
   submitted_out o t (proc, args, h) heard delivered = elim (g.submitted t proc args h) [
     | inl k ↦ g.out t k.0 k.1
     | inr p ↦
         (let at = subst (λ t. slice_get w.coords t.coord ≡ Some p.coord) (sym p.is) p.there in
         subst (CommitsAreOut w) p.is
         (whole_out plan asked S start is laws w log l o g.holds p.coord p.transaction at p.has
-        (all_heard p.coord p.transaction at p.has (subst (StartsHeard w) (sym p.is) (heard (λ reply k. g.gone t reply k p.coord p.transaction p.there p.has p.is))) (subst (AreDelivered w) (sym p.is) delivered))))
+        (all_heard p.coord p.transaction at p.has (subst (StartsHeard events w) (sym p.is) (heard (λ reply k. g.gone t reply k p.coord p.transaction p.there p.has p.is))) (subst (AreDelivered events w) (sym p.is) delivered))))
   ]
 
   -- it is enough to know it of submitted transactions, since only these are started
-  all_out : IsPending plan w → (t : TxnId) → IsHeardOf t → AreDelivered w t → CommitsAreOut w t
+  all_out : IsPending plan w → (t : TxnId) → IsHeardOf t → AreDelivered events w t → CommitsAreOut w t
   all_out o t heard delivered =
       record {
         each = λ m shard proc group args inputs h to is_start.
@@ -152,13 +155,13 @@ module _ (plan : Plan) (asked : TxnId → whole.Call) (S : Scheme) (start : Begi
       }
 
   -- no transaction waits for ever, so it was answered
-  all_answered : (t : TxnId) (proc : ℕ) (args : List ℤ) → Has (Submitted t proc args) w.history → (((reply : List ℤ) → ¬ Has (Answered t reply) w.history) → StartsHeard w t) → (((reply : List ℤ) → ¬ Has (Answered t reply) w.history) → CommitsHeard w t) → AreDelivered w t → (reply : List ℤ) × Has (Answered t reply) w.history
+  all_answered : (t : TxnId) (proc : ℕ) (args : List ℤ) → Has (Submitted t proc args) w.history → (((reply : List ℤ) → ¬ Has (Answered t reply) w.history) → StartsHeard events w t) → (((reply : List ℤ) → ¬ Has (Answered t reply) w.history) → CommitsHeard events w t) → AreDelivered events w t → (reply : List ℤ) × Has (Answered t reply) w.history
   all_answered t proc args h heard said delivered = elim (g.submitted t proc args h) [
     | inl k ↦ k
     | inr p ↦
         (let unanswered : (reply : List ℤ) → ¬ Has (Answered t reply) w.history = λ reply k. g.gone t reply k p.coord p.transaction p.there p.has p.is in
         absurd (never_done p.coord p.transaction (subst (λ t. slice_get w.coords t.coord ≡ Some p.coord) (sym p.is) p.there) p.has
-        (subst (StartsHeard w) (sym p.is) (heard unanswered)) (subst (AreDelivered w) (sym p.is) delivered) (subst (CommitsHeard w) (sym p.is) (said unanswered))))
+        (subst (StartsHeard events w) (sym p.is) (heard unanswered)) (subst (AreDelivered events w) (sym p.is) delivered) (subst (CommitsHeard events w) (sym p.is) (said unanswered))))
   ]
 
 -- ---- every run
@@ -184,20 +187,20 @@ module _ (plan : Plan) (start : Beginning) (begins : IsBeginning plan start) (sc
     ongoing = run_ongoing plan calls T start is (laws T sound) stores begins coords steps w run (serial.agrees plan some.0 w (serial.submissions plan start begins schemes laws stores coords steps w run some))
 
   -- where, unless t is answered, each delivered start of it has its startok, and all of its messages are delivered, its shards were asked to commit
-  pub commits_are_out : (t : TxnId) → (((reply : List ℤ) → ¬ Has (Answered t reply) w.history) → StartsHeard w t) → AreDelivered w t → CommitsAreOut w t
+  pub commits_are_out : (t : TxnId) → (((reply : List ℤ) → ¬ Has (Answered t reply) w.history) → StartsHeard (map (λ s. s.event) steps) w t) → AreDelivered (map (λ s. s.event) steps) w t → CommitsAreOut w t
   commits_are_out t heard delivered = elim (transaction_or_none plan) [
     | inl some ↦
         (let x = serial.logged plan start begins schemes laws stores coords steps w run some in
-        all_out plan (calls some) (T some) start (is some) (laws (T some) (sound some)) (sound some) w x.0 x.1 (ongoing some).0 (ongoing some).1 (pending some) t heard delivered)
+        all_out plan (calls some) (T some) start (is some) (laws (T some) (sound some)) (sound some) (map (λ s. s.event) steps) w (counts_delivered plan start coords steps w run) x.0 x.1 (ongoing some).0 (ongoing some).1 (pending some) t heard delivered)
     | inr none ↦ record { each = λ m shard proc group args inputs h to is_start. absurd (subst IsMark is_start (idle_mark plan start w (run_idle plan none start begins coords steps w run) m h)) }
   ]
 
   -- and where, unless it is answered, each delivered commit has its commitok too, it is answered
-  pub heard_is_answered : (t : TxnId) (proc : ℕ) (args : List ℤ) → Has (Submitted t proc args) w.history → (((reply : List ℤ) → ¬ Has (Answered t reply) w.history) → StartsHeard w t) → (((reply : List ℤ) → ¬ Has (Answered t reply) w.history) → CommitsHeard w t) → AreDelivered w t → (reply : List ℤ) × Has (Answered t reply) w.history
+  pub heard_is_answered : (t : TxnId) (proc : ℕ) (args : List ℤ) → Has (Submitted t proc args) w.history → (((reply : List ℤ) → ¬ Has (Answered t reply) w.history) → StartsHeard (map (λ s. s.event) steps) w t) → (((reply : List ℤ) → ¬ Has (Answered t reply) w.history) → CommitsHeard (map (λ s. s.event) steps) w t) → AreDelivered (map (λ s. s.event) steps) w t → (reply : List ℤ) × Has (Answered t reply) w.history
   heard_is_answered t proc args h heard said delivered = elim (transaction_or_none plan) [
     | inl some ↦
         (let x = serial.logged plan start begins schemes laws stores coords steps w run some in
-        all_answered plan (calls some) (T some) start (is some) (laws (T some) (sound some)) (sound some) w x.0 x.1 (ongoing some).0 (ongoing some).1 t proc args h heard said delivered)
+        all_answered plan (calls some) (T some) start (is some) (laws (T some) (sound some)) (sound some) (map (λ s. s.event) steps) w (counts_delivered plan start coords steps w run) x.0 x.1 (ongoing some).0 (ongoing some).1 t proc args h heard said delivered)
     | inr none ↦ absurd (subst (Has (Submitted t proc args)) (run_idle plan none start begins coords steps w run).history h)
   ]
 

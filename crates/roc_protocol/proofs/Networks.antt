@@ -47,7 +47,7 @@ use Rattle.roc_protocol.proofs.Gathered.{IsGathered}
 use Rattle.roc_protocol.proofs.Coordinators.{there}
 use Rattle.roc_step.proofs.Unions.{same_members}
 use Rattle.roc_protocol.proofs.Starting.{shard_number}
-use Rattle.roc_protocol.proofs.Worlds.{IsLogged}
+use Rattle.roc_protocol.proofs.Logged.{IsLogged}
 use Rattle.roc_protocol.proofs.Gone.{IsGone, here_stays}
 
 -- what is in the network stays there

@@ -21,7 +21,7 @@ use Rattle.roc_audit.specs.declared.entry.Entry.TheVariants.{Submitted, Answered
 use Rattle.roc_audit.specs.History.{WasSubmitted, IsToldOnce}
 use Rattle.roc_audit.proofs.Once.{told_nothing, told_more}
 use Rattle.roc_protocol.specs.declared.event.Event.{Event}
-use Rattle.roc_protocol.specs.declared.event.Event.TheVariants.{Submit, Deliver, Tick}
+use Rattle.roc_protocol.specs.declared.event.Event.TheVariants.{Submit, Deliver, Tick, Stop}
 use Rattle.roc_protocol.specs.PlanAssumptions.{HasSchemesFrom}
 use Rattle.roc_protocol.specs.Beginnings.{Beginning, IsBeginning}
 use Rattle.roc_protocol.specs.World.{World, mark_delivered}
@@ -30,10 +30,11 @@ use Rattle.roc_protocol.specs.Run.{Stepped}
 use Rattle.roc_protocol.specs.Beside.{Moves, IsRunBeside, beside_begins, beside_goes_on}
 use Rattle.roc_protocol.specs.Inner.Given.{LogLaws, StoreLaws}
 use Rattle.roc_protocol.proofs.Submissions.{IsNoReadOk, unused}
-use Rattle.roc_protocol.proofs.Worlds.{Submitting, is_refused, is_accepted, submitting, submissions_from}
+use Rattle.roc_protocol.proofs.AcceptedSubmissions.{Submitting, is_refused, is_accepted, submitting, submissions_from}
 use Rattle.roc_protocol.proofs.Idle.{run_idle}
 use Rattle.roc_protocol.proofs.Serial as serial
 use Rattle.roc_protocol.proofs.Liveness.{answered_gone}
+use Rattle.roc_protocol.proofs.Stops.{stop_keeps}
 use Rattle.roc_protocol.proofs.Transactions.{transaction_or_none}
 use Rattle.roc_protocol.proofs.AskedFor.{run_asked}
 use Rattle.roc_protocol.proofs.Fetches.{fetched_none, IsAskedFor}
@@ -104,6 +105,7 @@ module _ (plan : Plan) (start : Beginning) (begins : IsBeginning plan start) (sc
         go (Coord n) (s, at, e) = subst (λ (o : Outcome). IsToldOnce o.world.history) (sym e) (answer_told n s at (after_message plan s m.msg).answer (of_pending plan s m.msg (fetched_none (IsAskedFor w.servers) m.msg m.to ((run_asked plan start coords steps w run).sent m (has_at w.sent (k - 1) m there)))))
     step_told (Some (Tick (Server shard))) o (s, there, e) = subst (λ (o : Outcome). IsToldOnce o.world.history) (sym e) told
     step_told (Some (Tick (Coord n))) o (s, there, e) = subst (λ (o : Outcome). IsToldOnce o.world.history) (sym e) nothing_more
+    step_told (Some (Stop shard during)) o x = subst IsToldOnce (sym (stop_keeps plan w shard.0 during o x).0) told
 
   pub run_told : (steps : List Stepped) (w : World) → IsRunBeside plan start coords steps w → IsToldOnce w.history
   run_told steps w beside_begins = told_nothing

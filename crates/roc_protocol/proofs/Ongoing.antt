@@ -38,7 +38,7 @@ use Rattle.roc_protocol.proofs.Changed.{get-set_here, get-set_other, get-set_cas
 use Rattle.roc_protocol.proofs.Replies.{few_place, shard_listed}
 use Rattle.roc_protocol.proofs.Served.{StartsAre}
 use Rattle.roc_protocol.proofs.Submissions.{AreSubmissions, unused}
-use Rattle.roc_protocol.proofs.Worlds.{IsLogged, ordered_submitted}
+use Rattle.roc_protocol.proofs.Logged.{IsLogged, ordered_submitted}
 use Rattle.roc_protocol.proofs.Pending.{AnsweredAreDone, StartsOn, IsPending}
 use Rattle.roc_protocol.proofs.Taken.{TakesMore, IsTakenBy}
 use Rattle.roc_protocol.proofs.Outstanding.{IsOutstanding, outstanding_stays}

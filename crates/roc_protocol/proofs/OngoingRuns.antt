@@ -17,7 +17,7 @@ use Rattle.roc_whole.specs.Serial as whole
 use Rattle.roc_law_log.specs.Scheme.{Scheme}
 use Rattle.roc_law_log.specs.Log.{Log}
 use Rattle.roc_law_log.specs.Invariants.{LogInvariants}
-use Rattle.roc_step.specs.State.{answered, ServerStep}
+use Rattle.roc_step.specs.State.{answered, ServerStep, ServerState}
 use Rattle.roc_step.specs.Step as server
 use Rattle.roc_coord.specs.declared.transaction.Transaction.{Transaction}
 use Rattle.roc_coord.specs.State.{CoordState}
@@ -28,11 +28,11 @@ use Rattle.roc_audit.specs.declared.entry.Entry.{Entry}
 use Rattle.roc_audit.specs.declared.entry.Entry.TheVariants.{Submitted, Answered}
 use Rattle.roc_protocol.specs.Aside.{transaction_tick_sends}
 use Rattle.roc_protocol.specs.declared.event.Event.{Event}
-use Rattle.roc_protocol.specs.declared.event.Event.TheVariants.{Submit, Deliver, Tick}
+use Rattle.roc_protocol.specs.declared.event.Event.TheVariants.{Submit, Deliver, Tick, Stop}
 use Rattle.roc_protocol.specs.PlanAssumptions.{IsSchemeOf}
 use Rattle.roc_protocol.specs.Beginnings.{Beginning, IsBeginning, begun_coord}
 use Rattle.roc_protocol.specs.World.{World, mark_delivered, at_server, at_coord}
-use Rattle.roc_protocol.specs.Happens.{Outcome, answer_entries, IsReceived}
+use Rattle.roc_protocol.specs.Happens.{Outcome, answer_entries, IsReceived, IsSentTo}
 use Rattle.roc_protocol.specs.Run.{Stepped}
 use Rattle.roc_protocol.specs.Beside.{Moves, IsRunBeside, beside_begins, beside_goes_on}
 use Rattle.roc_protocol.specs.Quiet.{WasDelivered}
@@ -47,7 +47,8 @@ use Rattle.roc_protocol.proofs.Served.{StartsAre}
 use Rattle.roc_protocol.proofs.NoStarts.{no_starts, no_starts_at_tick}
 use Rattle.roc_protocol.proofs.Submissions.{AreSubmissions, no_submission, unused}
 use Rattle.roc_protocol.proofs.Firsts.{found_at}
-use Rattle.roc_protocol.proofs.Worlds.{Submitting, is_refused, is_accepted, submitting, submissions_from, comes_logged, Agrees, IsLogged}
+use Rattle.roc_protocol.proofs.AcceptedSubmissions.{Submitting, is_refused, is_accepted, submitting, submissions_from}
+use Rattle.roc_protocol.proofs.Logged.{comes_logged, Agrees, IsLogged}
 use Rattle.roc_protocol.proofs.Onward.{agrees_before}
 use Rattle.roc_protocol.proofs.Witness.{run_logged}
 use Rattle.roc_protocol.proofs.KeptAside.{IsKeptAside, kept_aside}
@@ -60,6 +61,9 @@ use Rattle.roc_protocol.proofs.Taken.{IsTakenBy, message_taken}
 use Rattle.roc_protocol.proofs.OutstandingSteps.{Proceeds, IsOfGroup, same, message_goes_on, submission_goes_on, same_aside}
 use Rattle.roc_protocol.proofs.Undelivered.{delivered_before, delivered_or_comes}
 use Rattle.roc_protocol.proofs.Ongoing.{IsOngoing, served_ongoing, answered_submitted, still_taken, not_answered, coordinated_ongoing}
+use Rattle.roc_step.specs.Restarts.{cut_short}
+use Rattle.roc_protocol.proofs.Stops.{by_stop}
+use Rattle.roc_protocol.proofs.Stopping.{take_has}
 
 -- what was delivered to a coordinator was taken
 pub record AreTaken (w : World) : Type 0 where
@@ -276,6 +280,22 @@ module _ (plan : Plan) (asked : TxnId → whole.Call) (S : Scheme) (start : Begi
     step_ongoing (Some (Submit n proc args)) v (s, there, h) fits = submit_ongoing n proc args s there v (submitting plan w n proc args s v h) fits
     step_ongoing (Some (Deliver k)) v (m, some, there, h) fits = receive_all k m some there m.to refl v h
     step_ongoing (Some (Tick node)) v h fits = tick_all node v h
+    step_ongoing (Some (Stop shard during)) v x fits = by_stop plan w shard.0 Goes (g, a) come cut again during v x
+      where
+        come : (k : ℕ) (m : Envelope) → IsSentTo w.sent k shard.0 m → Goes (mark_delivered w k)
+        come k m sent = (
+          record { submitted = g.submitted; holds = g.holds; gone = g.gone; out = λ t reply h. record { each = (g.out t reply h).each } },
+          record { each = λ j number b c f d back h. came w k m sent.some sent.there j b f d (λ b. b.to ≡ Coord number → IsTakenBy c.pending b.msg) (λ x. absurd (let y = sent.to in cc)) (λ d x. a.each j number b c f d x h) back },
+        )
+
+        cut : (k many : ℕ) (m : Envelope) (s : ServerState) (r : ServerStep) → IsSentTo w.sent k shard.0 m → slice_get w.servers shard.0 ≡ Some s → server.Handles plan s m.msg r → Goes (at_server (mark_delivered w k) shard.0 (cut_short many r))
+        cut k many m s r sent at step = (
+          served_ongoing plan (mark_delivered w k) (come k m sent).0 shard.0 (cut_short many r) (λ t out h. subst (λ (r : ServerStep). (out : Outgoing) → Has out r.sends → StartsAre (λ u. u ≢ t) out.msg) (sym step.is) (no_starts plan s (λ u. u ≢ t) step.findings m.msg) out (take_has many r.sends out h)),
+          served_taken (mark_delivered w k) shard.0 (cut_short many r) (come k m sent).1.each,
+        )
+
+        again : (v : World) (s : ServerState) → Goes v → slice_get v.servers shard.0 ≡ Some s → Goes (at_server v shard.0 (answered s (server.tick_sends s)))
+        again v s p there = (served_ongoing plan v p.0 shard.0 (answered s (server.tick_sends s)) (λ t. no_starts_at_tick plan s (λ u. u ≢ t)), served_taken v shard.0 (answered s (server.tick_sends s)) p.1.each)
 
   module _ (stores : StoreLaws) (begins : IsBeginning plan start) where
     -- every world of every run

@@ -16,7 +16,7 @@ use Rattle.roc_audit.specs.declared.entry.Entry.{Entry}
 use Rattle.roc_audit.specs.declared.entry.Entry.TheVariants.{Submitted}
 use Rattle.roc_audit.specs.History.{WasSubmitted}
 use Rattle.roc_protocol.specs.declared.event.Event.{Event}
-use Rattle.roc_protocol.specs.declared.event.Event.TheVariants.{Submit, Deliver, Tick}
+use Rattle.roc_protocol.specs.declared.event.Event.TheVariants.{Submit, Deliver, Tick, Stop}
 use Rattle.roc_protocol.specs.World.{World, mark_delivered, at_coord}
 use Rattle.roc_protocol.specs.Happens.{Outcome, answer_entries, IsReceived}
 use Rattle.roc_protocol.specs.Beside.{Moves}
@@ -24,7 +24,9 @@ use Rattle.roc_protocol.proofs.Changed.{get-set_here, get-set_other}
 use Rattle.std.proofs.lemmas.Bool.{cases_eq}
 use Rattle.roc_protocol.proofs.KeptAside.{kept_aside, aside_onward}
 use Rattle.roc_protocol.proofs.Submissions.{AreSubmissions, keeps_number, no_submission}
-use Rattle.roc_protocol.proofs.Worlds.{Submitting, is_refused, is_accepted, submitting, Agrees}
+use Rattle.roc_protocol.proofs.AcceptedSubmissions.{Submitting, is_refused, is_accepted, submitting}
+use Rattle.roc_protocol.proofs.Logged.{Agrees}
+use Rattle.roc_protocol.proofs.Stops.{stop_keeps}
 
 -- a history grows at its end, no coordinator goes, and what is submitted has a sequence that was not used
 pub record IsNext (w v : World) : Type 0 where
@@ -96,6 +98,7 @@ module _ (plan : Plan) (w : World) (a : AreSubmissions plan w.history w.coords) 
   step_next (Some (Tick (Server shard))) o (s, there, e) = still_next w o.world (ap (λ (o : Outcome). o.world.history) e) (ap (λ (o : Outcome). o.world.coords) e)
   step_next (Some (Tick (Coord n))) o (s, there, e) =
       subst (λ (o : Outcome). IsNext w o.world) (sym e) (coord_next w n s s there (omega arith) _ [] (λ t h. absurd h.2))
+  step_next (Some (Stop shard during)) o x = let q = stop_keeps plan w shard.0 during o x in still_next w o.world q.0 q.1
 
   pub agrees_before : (asked : TxnId → whole.Call) (e : Option Event) (o : Outcome) → Moves plan w e o → Agrees asked o.world → Agrees asked w
   agrees_before asked e o h g =

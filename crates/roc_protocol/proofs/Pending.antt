@@ -34,7 +34,7 @@ use Rattle.roc_protocol.proofs.Carried.{StartsHere, HoldsGood, KeepsGood}
 use Rattle.roc_protocol.proofs.Served.{StartsAre}
 use Rattle.roc_protocol.proofs.Held.{GoesOn, Advances}
 use Rattle.roc_protocol.proofs.Submissions.{AreSubmissions, unused}
-use Rattle.roc_protocol.proofs.Worlds.{IsLogged}
+use Rattle.roc_protocol.proofs.Logged.{IsLogged}
 
 -- each pending transaction of this id was asked to start the group on the shard
 abbrev pub AskedBy : List CoordState → TxnId → ℕ → ℕ → Type 0

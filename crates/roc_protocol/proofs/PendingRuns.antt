@@ -40,12 +40,12 @@ use Rattle.roc_audit.specs.declared.entry.Entry.TheVariants.{Submitted}
 use Rattle.roc_step.proofs.SameIds.{ids_of}
 use Rattle.roc_protocol.specs.Aside.{transaction_tick_sends}
 use Rattle.roc_protocol.specs.declared.event.Event.{Event}
-use Rattle.roc_protocol.specs.declared.event.Event.TheVariants.{Submit, Deliver, Tick}
+use Rattle.roc_protocol.specs.declared.event.Event.TheVariants.{Submit, Deliver, Tick, Stop}
 use Rattle.roc_protocol.specs.PlanAssumptions.{IsSchemeOf}
 use Rattle.roc_protocol.specs.Final.{lists_in}
 use Rattle.roc_protocol.specs.Beginnings.{Beginning, IsBeginning, begun_server, begun_coord}
-use Rattle.roc_protocol.specs.World.{World, mark_delivered, at_coord}
-use Rattle.roc_protocol.specs.Happens.{Outcome, answer_entries, IsReceived}
+use Rattle.roc_protocol.specs.World.{World, mark_delivered, at_coord, at_server}
+use Rattle.roc_protocol.specs.Happens.{Outcome, answer_entries, IsReceived, IsSentTo}
 use Rattle.roc_protocol.specs.Run.{Stepped}
 use Rattle.roc_protocol.specs.Beside.{Moves, IsRunBeside, beside_begins, beside_goes_on}
 use Rattle.roc_protocol.specs.Inner.Given.{LogLaws, StoreLaws}
@@ -62,13 +62,17 @@ use Rattle.roc_protocol.proofs.Pending.{AskedBy, IsWholeAt, StartsOn, IsPending,
 use Rattle.roc_protocol.proofs.PendingSends.{start_on, commit_lists, commit_starts, start_lists, round_starts, round_lists}
 use Rattle.roc_protocol.proofs.Firsts.{found_at}
 use Rattle.roc_protocol.proofs.Submissions.{AreSubmissions, unused}
-use Rattle.roc_protocol.proofs.Worlds.{Submitting, is_refused, is_accepted, submitting, submissions_from, comes_logged, Agrees, IsLogged}
+use Rattle.roc_protocol.proofs.AcceptedSubmissions.{Submitting, is_refused, is_accepted, submitting, submissions_from}
+use Rattle.roc_protocol.proofs.Logged.{comes_logged, Agrees, IsLogged}
 use Rattle.roc_protocol.proofs.Onward.{agrees_before}
 use Rattle.roc_protocol.proofs.Witness.{run_logged}
 use Rattle.roc_protocol.proofs.KeptAside.{kept_aside}
 use Rattle.roc_protocol.proofs.Marks.{IsMarkOf, mark_sent, mark_told}
 use Rattle.roc_coord.specs.Marks.{ended_sends}
 use Rattle.roc_audit.specs.History.{WasSubmitted}
+use Rattle.roc_step.specs.Restarts.{cut_short}
+use Rattle.roc_protocol.proofs.Stops.{by_stop}
+use Rattle.roc_protocol.proofs.Stopping.{take_has, fewer_good}
 
 module _ (plan : Plan) (asked : TxnId → whole.Call) (S : Scheme) (start : Beginning) (is : IsSchemeOf plan asked S) (laws : LogLaws S start.store) where
   module _ (w : World) (log : Log) (l : IsLogged plan asked S start is laws w log) (nw : IsNetworked plan asked S start is laws w) (subs : AreSubmissions plan w.history w.coords) (o : IsPending plan w) where
@@ -247,6 +251,22 @@ module _ (plan : Plan) (asked : TxnId → whole.Call) (S : Scheme) (start : Begi
   step_pending w log l nw subs o (Some (Tick (Server shard))) v (s, there, e) = subst (λ (v : Outcome). IsPending plan v.world) (sym e)
       (served_pending plan w o shard.0 s there (answered s (server.tick_sends s)) (tick_good plan (λ t es. IsWholeAt plan w.coords t) (λ t g. AskedBy w.coords t g shard.0) s (o.servers shard.0 s there)) (no_starts_at_tick plan s (λ t. ⊥)))
   step_pending w log l nw subs o (Some (Tick (Coord n))) v (s, there, e) = subst (λ (v : Outcome). IsPending plan v.world) (sym e) (tick_pending w log l nw subs o n s there [])
+  step_pending w log l nw subs o (Some (Stop shard during)) v x = by_stop plan w shard.0 (IsPending plan) o (λ k m sent. come k) cut again during v x
+    where
+      come : (k : ℕ) → IsPending plan (mark_delivered w k)
+      come k = record { own = o.own; once = o.once; starts = o.starts; lists = o.lists; servers = o.servers }
+
+      cut : (k many : ℕ) (m : Envelope) (s : ServerState) (r : ServerStep) → IsSentTo w.sent k shard.0 m → slice_get w.servers shard.0 ≡ Some s → server.Handles plan s m.msg r → IsPending plan (at_server (mark_delivered w k) shard.0 (cut_short many r))
+      cut k many m s r sent at step =
+          let has = has_at w.sent (k - 1) m sent.there in
+          let f = subst (StartsOn w.coords m.msg) sent.to (o.starts m has) in
+          served_pending plan (mark_delivered w k) (come k) shard.0 s at (cut_short many r)
+          (fewer_good plan (λ t es. IsWholeAt plan w.coords t) (λ t g. AskedBy w.coords t g shard.0) s r _ (take_has many r.sends)
+          (message_good plan (λ t es. IsWholeAt plan w.coords t) (λ t g. AskedBy w.coords t g shard.0) s (o.servers shard.0 s at) m.msg r step (o.lists m has) (starts_here w.coords m.msg shard.0 f)))
+          (λ out h. subst (λ (r : ServerStep). (out : Outgoing) → Has out r.sends → StartsAre (λ t. ⊥) out.msg) (sym step.is) (no_starts plan s (λ t. ⊥) step.findings m.msg) out (take_has many r.sends out h))
+
+      again : (v : World) (s : ServerState) → IsPending plan v → slice_get v.servers shard.0 ≡ Some s → IsPending plan (at_server v shard.0 (answered s (server.tick_sends s)))
+      again v s p there = served_pending plan v p shard.0 s there (answered s (server.tick_sends s)) (tick_good plan (λ t es. IsWholeAt plan v.coords t) (λ t g. AskedBy v.coords t g shard.0) s (p.servers shard.0 s there)) (no_starts_at_tick plan s (λ t. ⊥))
 
   module _ (stores : StoreLaws) (begins : IsBeginning plan start) where
     pub run_pending : (coords : ℕ) (steps : List Stepped) (w : World) → IsRunBeside plan start coords steps w → Agrees asked w → IsPending plan w

@@ -1,5 +1,5 @@
 -- A quiet transaction is decided wherever it has a group, and its commits are answered
-use Rattle.std.proofs.Common.{◌≡◌, ℕ, ℤ, suc, ◌<◌, Bool, true, false, List, [], ◌∷◌, Option, Some, None, length, refl, sym, ap, subst, ◌∙◌, inl, inr, arith, is_some, unwrap_or}
+use Rattle.std.proofs.Common.{◌≡◌, ℕ, ℤ, suc, ◌<◌, Bool, true, false, List, [], ◌∷◌, Option, Some, None, length, refl, sym, ap, subst, ◌∙◌, inl, inr, arith, is_some, unwrap_or, map}
 use Rattle.std.proofs.lemmas.Bool.{false≢true}
 use Rattle.std.specs.Prelude.{slice_get, flat_map}
 use Rattle.std.specs.List.{range_with_len}
@@ -93,17 +93,17 @@ entry_of known u t p =
     let k = known_has known t (entry_known known t a.0 a.1) in
     record { list = k.0; is_known = k.1; of = k.2; entry = a.0; has = subst (Has a.0) k.3 a.1; from = is_txn-true a.0.from u a.2 }
 
-module _ (plan : Plan) (marks : ℕ) (w : World) (o : HasHeard marks w) (finals : (n : ℕ) (s : ServerState) → slice_get w.servers n ≡ Some s → (k : KnownList) → Has k s.lists.known → IsFinalIn plan w k.of k.edges) (out : (u : TxnId) → AreDelivered w u → CommitsAreOut w u) (Asked : TxnId → Type 0) (ended : (n : ℕ) (s : ServerState) → slice_get w.servers n ≡ Some s → (t : TxnId) → Asked t → is_ended s.below t ≡ true → (reply : List ℤ) × WasAnswered w.history t reply) where
+module _ (plan : Plan) (marks : ℕ) (steps : List Stepped) (w : World) (o : HasHeard marks (map (λ s. s.event) steps) w) (finals : (n : ℕ) (s : ServerState) → slice_get w.servers n ≡ Some s → (k : KnownList) → Has k s.lists.known → IsFinalIn plan w k.of k.edges) (out : (u : TxnId) → AreDelivered (map (λ s. s.event) steps) w u → CommitsAreOut w u) (Asked : TxnId → Type 0) (ended : (n : ℕ) (s : ServerState) → slice_get w.servers n ≡ Some s → (t : TxnId) → Asked t → is_ended s.below t ≡ true → (reply : List ℤ) × WasAnswered w.history t reply) where
   -- a message in the network of a transaction whose messages were delivered came
-  came : (u : TxnId) → AreDelivered w u → (k : ℕ) (m : Envelope) → slice_get w.sent k ≡ Some m → id_of m.msg ≡ Some u → HasCome w k
-  came u d k m at of = (m, at, d.each k m at of)
+  came : (u : TxnId) → AreDelivered (map (λ s. s.event) steps) w u → (k : ℕ) (m : Envelope) → slice_get w.sent k ≡ Some m → id_of m.msg ≡ Some u → HasCome (map (λ s. s.event) steps) w.sent k
+  came u d k m at of = d.each k m at of
 
   -- and was taken
-  taken : (u : TxnId) → AreDelivered w u → (k : ℕ) (m : Envelope) → slice_get w.sent k ≡ Some m → (msg : Msg) (to : Node) → m.msg ≡ msg → m.to ≡ to → id_of msg ≡ Some u → IsTaken w.servers w.sent k msg to
+  taken : (u : TxnId) → AreDelivered (map (λ s. s.event) steps) w u → (k : ℕ) (m : Envelope) → slice_get w.sent k ≡ Some m → (msg : Msg) (to : Node) → m.msg ≡ msg → m.to ≡ to → id_of msg ≡ Some u → IsTaken w.servers w.sent k msg to
   taken u d k m at msg to is goes of = subst (IsTaken w.servers w.sent k msg) goes (subst (λ msg. IsTaken w.servers w.sent k msg m.to) is (o.taken k m (came u d k m at (ap id_of is ∙ of)) at))
 
   -- where it has a group its list is known
-  known_here : (u : TxnId) → AreDelivered w u → (n : ℕ) (s : ServerState) → slice_get w.servers n ≡ Some s → is_here u s.started ≡ true → IsKnown s.lists.known u
+  known_here : (u : TxnId) → AreDelivered (map (λ s. s.event) steps) w u → (n : ℕ) (s : ServerState) → slice_get w.servers n ≡ Some s → is_here u s.started ≡ true → IsKnown s.lists.known u
   known_here u d n s there here =
       let q = any_has (λ (e : StartedGroup). is_txn e.id u) s.started here in
       let st = (o.awaits n s there).starts.groups q.0 q.1 in
@@ -128,8 +128,8 @@ module _ (plan : Plan) (marks : ℕ) (w : World) (o : HasHeard marks w) (finals 
       let k = f.union.in_network g.0 (all_has (λ g. g < length (groups_of plan f.proc)) g.0 range (range_below 0 (length (groups_of plan f.proc)) (length (groups_of plan f.proc)) (omega arith)) g.1) in
       record { group = g.0; edges = f.union.told g.0; facts = k.0; told = subst (λ t. IsToldIn w.sent t g.0 (f.union.told g.0) k.0) e.of k.1; entry = a.0; listed = g.2; from = a.2 ∙ e.from }
 
-  module _ (steps : List Stepped) (t : TxnId) (quiet : IsQuiet plan steps w t) where
-    own : AreDelivered w t
+  module _ (t : TxnId) (quiet : IsQuiet plan steps w t) where
+    own : AreDelivered (map (λ s. s.event) steps) w t
     own = record { each = λ k m at of. quiet.each k m t at of (inl refl) }
 
     module _ (n : ℕ) (s : ServerState) (there : slice_get w.servers n ≡ Some s) (entry : (t : TxnId) (d : Dependency) → Has d (entries_of s.lists.links t) → Has d (entries_of s.lists.known t)) where
@@ -137,7 +137,7 @@ module _ (plan : Plan) (marks : ℕ) (w : World) (o : HasHeard marks w) (finals 
       followed : (u t : TxnId) → Precedes s.lists.links u t → Precedes s.lists.known u t
       followed u t p = let a = any_has (λ (d : Dependency). is_txn d.from u) (entries_of s.lists.links t) p in has_any (λ (d : Dependency). is_txn d.from u) (entries_of s.lists.known t) a.0 (entry t a.0 a.1) a.2
 
-      before : (u : TxnId) → Reaches (Precedes s.lists.links) u t → AreDelivered w u
+      before : (u : TxnId) → Reaches (Precedes s.lists.links) u t → AreDelivered (map (λ s. s.event) steps) w u
       before u p = record { each = λ k m at of. quiet.each k m u at of (inr (weaker_chain (Precedes s.lists.links) (PrecedesIn w.sent) (λ a b e. named_sent n s there a b (followed a b e)) u t p)) }
 
       -- what answers a fetch is a message of its transaction
@@ -146,7 +146,7 @@ module _ (plan : Plan) (marks : ℕ) (w : World) (o : HasHeard marks w) (finals 
       told_of u m (to, inr k) = ap id_of k.1
 
       -- what was asked for was answered: an answer behind its fetch came, so it is known
-      answered_known : (u : TxnId) → AreDelivered w u → (a : OpenFetch) → Has a s.lists.waiting.asked → a.id ≡ u → (b : Bool) → is_known s.lists.known u ≡ b → IsKnown s.lists.known u
+      answered_known : (u : TxnId) → AreDelivered (map (λ s. s.event) steps) w u → (a : OpenFetch) → Has a s.lists.waiting.asked → a.id ≡ u → (b : Bool) → is_known s.lists.known u ≡ b → IsKnown s.lists.known u
       answered_known u d a h of true e = e
       answered_known u d a h of false e =
           let f = o.fresh n s there a h (λ k. false≢true (sym e ∙ subst (IsKnown s.lists.known) of k)) in
@@ -174,10 +174,10 @@ module _ (plan : Plan) (marks : ℕ) (w : World) (o : HasHeard marks w) (finals 
 
     -- unless it is answered
     commits_answered : ((n : ℕ) (s : ServerState) → slice_get w.servers n ≡ Some s → (t : TxnId) (d : Dependency) → Has d (entries_of s.lists.links t) → Has d (entries_of s.lists.known t))
-        → Asked t → ((reply : List ℤ) → ¬ WasAnswered w.history t reply) → CommitsHeard w t
+        → Asked t → ((reply : List ℤ) → ¬ WasAnswered w.history t reply) → CommitsHeard (map (λ s. s.event) steps) w t
     commits_answered entry asked unanswered = record {
       each = λ k m shard edges facts at goes is d.
-          (let a : At w.servers shard.0 (HasCommit w.sent t shard) = subst (IsTaken w.servers w.sent k (Commit t edges facts)) goes (subst (λ msg. IsTaken w.servers w.sent k msg m.to) is (o.taken k m (m, at, d) at)) in
+          (let a : At w.servers shard.0 (HasCommit w.sent t shard) = subst (IsTaken w.servers w.sent k (Commit t edges facts)) goes (subst (λ msg. IsTaken w.servers w.sent k msg m.to) is (o.taken k m d at)) in
           elim a.2 [ inl k ↦ k.2 (decided_here shard.0 a.0 a.1 (entry shard.0 a.0 a.1) k.0) | inr gone ↦ absurd (let answer = ended shard.0 a.0 a.1 t asked gone.ended in unanswered answer.0 answer.1) ]);
     }
 
@@ -185,7 +185,7 @@ module _ (plan : Plan) (marks : ℕ) (w : World) (o : HasHeard marks w) (finals 
 
 module _ (plan : Plan) (start : Beginning) (begins : IsBeginning plan start) (schemes : HasSchemesFrom plan start.store) (laws : (S : Scheme) → IsSoundScheme S → LogLaws S start.store) (stores : StoreLaws) (marks : ℕ) (many : (n : ℕ) → length (start.below n) ≡ marks)
     (coords : ℕ) (steps : List Stepped) (w : World) (run : IsRunBeside plan start coords steps w) where
-  heard : HasHeard marks w
+  heard : HasHeard marks (map (λ s. s.event) steps) w
   heard = run_heard plan start begins schemes laws stores marks many coords steps w run
 
   -- each start goes to a server, and is of a transaction that was submitted
@@ -202,11 +202,11 @@ module _ (plan : Plan) (start : Beginning) (begins : IsBeginning plan start) (sc
   ended n s there t was = heard_answered plan start begins schemes laws stores coords steps w run n s there t (submitted_own plan start begins schemes laws stores coords steps w run t was)
 
   -- each start that was delivered has a startok in the network, unless it is answered
-  pub starts_heard : (t : TxnId) → ((reply : List ℤ) → ¬ WasAnswered w.history t reply) → StartsHeard w t
+  pub starts_heard : (t : TxnId) → ((reply : List ℤ) → ¬ WasAnswered w.history t reply) → StartsHeard (map (λ s. s.event) steps) w t
   starts_heard t unanswered = record {
     each = λ k m proc group args inputs at is d.
         (let to = start_to m (has_at w.sent k m at) t proc group args inputs is in
-        elim (subst (IsTaken w.servers w.sent k (Start t proc group args inputs)) to.1 (subst (λ msg. IsTaken w.servers w.sent k msg m.to) is (heard.taken k m (m, at, d) at))) [
+        elim (subst (IsTaken w.servers w.sent k (Start t proc group args inputs)) to.1 (subst (λ msg. IsTaken w.servers w.sent k msg m.to) is (heard.taken k m d at))) [
           | inl told ↦ told
           | inr over ↦ absurd (let answer = ended to.0.0 over.0 over.1 t to.2 over.2 in unanswered answer.0 answer.1)
         ]);
@@ -221,14 +221,14 @@ module _ (plan : Plan) (start : Beginning) (begins : IsBeginning plan start) (sc
     | inr none ↦ absurd (subst (λ links. Has d (entries_of links t)) ((run_idle plan none start begins coords steps w run).servers n s there).links h)
   ]
 
-  module _ (out : (u : TxnId) → AreDelivered w u → CommitsAreOut w u) where
+  module _ (out : (u : TxnId) → AreDelivered (map (λ s. s.event) steps) w u → CommitsAreOut w u) where
     finals : (n : ℕ) (s : ServerState) → slice_get w.servers n ≡ Some s → (k : KnownList) → Has k s.lists.known → IsFinalIn plan w k.of k.edges
     finals = known_final plan start begins schemes laws stores coords steps w run
 
     -- a quiet transaction is decided wherever it has a group
     pub quiet_is_decided : (t : TxnId) → IsQuiet plan steps w t → (shard : Shard) (s : ServerState) → slice_get w.servers shard.0 ≡ Some s → (e : StartedGroup) → Has e s.started → e.id ≡ t → IsDecided s.lists.links t
-    quiet_is_decided t quiet shard s there e h of = decided_here plan marks w heard finals out (WasSubmitted w.history) ended steps t quiet shard.0 s there (entry shard.0 s there) (has_any (λ (e : StartedGroup). is_txn e.id t) s.started e h (is_txn-eq e.id t of))
+    quiet_is_decided t quiet shard s there e h of = decided_here plan marks steps w heard finals out (WasSubmitted w.history) ended t quiet shard.0 s there (entry shard.0 s there) (has_any (λ (e : StartedGroup). is_txn e.id t) s.started e h (is_txn-eq e.id t of))
 
     -- and each commit of it that was delivered has a commitok in the network, unless it is answered
-    pub commits_heard : (t : TxnId) → IsQuiet plan steps w t → WasSubmitted w.history t → ((reply : List ℤ) → ¬ WasAnswered w.history t reply) → CommitsHeard w t
-    commits_heard t quiet = commits_answered plan marks w heard finals out (WasSubmitted w.history) ended steps t quiet entry
+    pub commits_heard : (t : TxnId) → IsQuiet plan steps w t → WasSubmitted w.history t → ((reply : List ℤ) → ¬ WasAnswered w.history t reply) → CommitsHeard (map (λ s. s.event) steps) w t
+    commits_heard t quiet = commits_answered plan marks steps w heard finals out (WasSubmitted w.history) ended t quiet entry

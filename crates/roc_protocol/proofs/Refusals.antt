@@ -54,7 +54,7 @@ use Rattle.roc_protocol.proofs.Facts.{known_has}
 use Rattle.roc_protocol.proofs.Submissions.{AreSubmissions}
 use Rattle.roc_protocol.proofs.Fetches.{FetchedFor, IsAskedFor, HasAsked}
 use Rattle.roc_protocol.proofs.Networks.{Good, IsNetworked, one_union}
-use Rattle.roc_protocol.proofs.Worlds.{Agrees, IsLogged}
+use Rattle.roc_protocol.proofs.Logged.{Agrees, IsLogged}
 
 length-picked : (is : List Input) (given : List (List ℤ)) → length given ≡ length is → length (picked is given) ≡ length is
 length-picked [] given e = refl

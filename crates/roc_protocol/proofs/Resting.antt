@@ -25,17 +25,18 @@ use Rattle.roc_audit.specs.declared.entry.Entry.TheVariants.{Submitted}
 use Rattle.roc_audit.specs.Witness.{submitted_call, submitted_calls, IsSerialWitnessFrom}
 use Rattle.roc_audit.proofs.Histories.{call_of-append, call_of-submitted}
 use Rattle.roc_protocol.specs.declared.event.Event.{Event}
-use Rattle.roc_protocol.specs.declared.event.Event.TheVariants.{Submit, Deliver, Tick}
+use Rattle.roc_protocol.specs.declared.event.Event.TheVariants.{Submit, Deliver, Tick, Stop}
 use Rattle.roc_protocol.specs.Beginnings.{Beginning}
 use Rattle.roc_protocol.specs.World.{World, mark_delivered}
 use Rattle.roc_protocol.specs.Happens.{Outcome, IsReceived, answer_entries}
 use Rattle.roc_protocol.specs.Run.{Stepped}
 use Rattle.roc_protocol.specs.Beside.{Moves, IsRunBeside, beside_goes_on}
 use Rattle.roc_protocol.proofs.Submissions.{no_submission}
-use Rattle.roc_protocol.proofs.Worlds.{Submitting, is_refused, is_accepted, submitting}
+use Rattle.roc_protocol.proofs.AcceptedSubmissions.{Submitting, is_refused, is_accepted, submitting}
 use Rattle.roc_protocol.proofs.Earlier.{order_goes_on}
 use Rattle.roc_protocol.proofs.Ordered.{apart}
 use Rattle.roc_protocol.proofs.Cells.{AreAllAnswered, IsCellSerial}
+use Rattle.roc_protocol.proofs.Stops.{stop_keeps}
 
 -- an event leaves the servers and the order, or it submits nothing
 data Leaves (w : World) (o : World) : Type 0 where
@@ -57,6 +58,7 @@ leaves plan w (Some (Deliver k)) o (m, some, there, h) = go m.to h
     go (Coord n) (s, at, e) = subst (λ (o : Outcome). Leaves w o.world) (sym e) (submits_none (answer_entries (after_message plan s m.msg).answer) refl (no_submission (after_message plan s m.msg).answer))
 leaves plan w (Some (Tick (Server shard))) o (s, there, e) = subst (λ (o : Outcome). Leaves w o.world) (sym e) (submits_none [] (sym (append-nil w.history)) (λ t p a h. h))
 leaves plan w (Some (Tick (Coord n))) o (s, there, e) = subst (λ (o : Outcome). Leaves w o.world) (sym e) (submits_none [] refl (λ t p a h. h))
+leaves plan w (Some (Stop shard during)) o x = submits_none [] ((stop_keeps plan w shard.0 during o x).0 ∙ sym (append-nil w.history)) (λ t p a h. h)
 
 same_calls : (h g : List Entry) (order : List TxnId) → ((t : TxnId) → Has t order → submitted_call t h ≡ submitted_call t g) → submitted_calls h order ≡ submitted_calls g order
 same_calls h g [] e = refl

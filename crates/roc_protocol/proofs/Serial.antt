@@ -28,7 +28,8 @@ use Rattle.roc_protocol.proofs.Means.{AreRan}
 use Rattle.roc_protocol.proofs.KeptRuns.{AreKeptIn}
 use Rattle.roc_protocol.proofs.Submissions.{AreSubmissions}
 use Rattle.roc_protocol.proofs.Idle.{IsIdle, run_idle}
-use Rattle.roc_protocol.proofs.Worlds.{submissions_from, Agrees, IsLogged, ordered_submitted}
+use Rattle.roc_protocol.proofs.AcceptedSubmissions.{submissions_from}
+use Rattle.roc_protocol.proofs.Logged.{Agrees, IsLogged, ordered_submitted}
 use Rattle.roc_protocol.proofs.Witness.{run_logged, witness}
 use Rattle.roc_protocol.proofs.Transactions.{transaction_or_none, HasTransaction}
 

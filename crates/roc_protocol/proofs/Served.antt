@@ -48,7 +48,7 @@ use Rattle.roc_step.specs.Lists.{links_of, missing_after, lists_after, decides, 
 use Rattle.roc_step.specs.Step.{Findings, AreFindings, unless_refused, after_message, Handles, tick_sends}
 use Rattle.roc_protocol.specs.PlanAssumptions.{IsSchemeOf}
 use Rattle.roc_protocol.specs.Beginnings.{Beginning}
-use Rattle.roc_protocol.specs.World.{World}
+use Rattle.roc_protocol.specs.World.{World, at_server}
 use Rattle.roc_protocol.specs.Inner.Given.{LogLaws}
 use Rattle.roc_protocol.proofs.Means.{IsOther, HasBegun, IsPast, IsForgotten, entry_run, Began, Means, ListMeans, AllMean, StartIs, AreGroupsHere, ServerMeans, WorldMeans, AreEnded}
 use Rattle.roc_protocol.proofs.Gone.{IsGone, gone_same, gone_hears, gone_begins}
@@ -368,8 +368,17 @@ module _ (plan : Plan) (asked : TxnId → whole.Call) (S : Scheme) (start : Begi
       go (Read id round proc group args) f found m k = absurd m
       go msg f found m k = refuses (Ignored Foreign)
 
+  tick_means : (out : Outgoing) → Has out (tick_sends s) → Means plan asked S start c out.msg out.to
+  tick_means out h =
+      let q = from_has_map (fetch_from s.shard) out (filter (λ (a : OpenFetch). not (is_known s.lists.known a.id)) s.lists.waiting.asked) h in
+      subst (λ (out : Outgoing). Means plan asked S start c out.msg out.to) (sym q.2) (mine.fetched q.0 (from_has_filter (λ (a : OpenFetch). not (is_known s.lists.known a.id)) q.0 s.lists.waiting.asked q.1).0)
+
+  -- a tick is no step of the log
+  pub tick_still : WorldMeans plan asked S start c (at_server w n (answered s (tick_sends s)))
+  tick_still = server_means plan asked S start is c c i i (laws.grows c c i no_steps) o.reached w o n s (answered s (tick_sends s)) there mine (λ m apart v h. o.servers m v h) tick_means o.order refl
+
   pub tick_explained : Explained (answered s (tick_sends s))
   tick_explained =
       still (answered s (tick_sends s)) mine
-      (λ out h. let q = from_has_map (fetch_from s.shard) out (filter (λ (a : OpenFetch). not (is_known s.lists.known a.id)) s.lists.waiting.asked) h in subst (λ (out : Outgoing). Means plan asked S start c out.msg out.to) (sym q.2) (mine.fetched q.0 (from_has_filter (λ (a : OpenFetch). not (is_known s.lists.known a.id)) q.0 s.lists.waiting.asked q.1).0))
+      tick_means
       kept_all refl refl refl

@@ -49,7 +49,7 @@ use Rattle.roc_protocol.proofs.Facts.{known_has}
 use Rattle.roc_protocol.proofs.Replies.{count_given, places_are, counts_at, lengths_of_flat, few_place, shard_listed}
 use Rattle.roc_protocol.proofs.Networks.{IsToldHere, IsNetworked}
 use Rattle.roc_protocol.proofs.Pending.{AnsweredAreDone, AskedBy, IsWholeAt, IsPending}
-use Rattle.roc_protocol.proofs.Worlds.{IsLogged, ordered_submitted}
+use Rattle.roc_protocol.proofs.Logged.{IsLogged, ordered_submitted}
 use Rattle.roc_step.proofs.SameIds.{known_alike}
 use Rattle.roc_protocol.proofs.Gone.{IsGone}
 use Rattle.roc_coord.specs.Ids.{view_ids}

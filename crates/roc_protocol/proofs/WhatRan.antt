@@ -32,7 +32,7 @@ use Rattle.roc_protocol.specs.Inner.Given.{LogLaws}
 use Rattle.roc_protocol.proofs.Means.{entry_run, place, Ran, Began, EntryMeans, ServerMeans, AreRan}
 use Rattle.roc_protocol.proofs.SaidOfServers.{found_run, group_decided, found_or_decided}
 use Rattle.roc_protocol.proofs.Meets.{meet_of, of_meet}
-use Rattle.roc_protocol.proofs.Worlds.{IsLogged}
+use Rattle.roc_protocol.proofs.Logged.{IsLogged}
 use Rattle.roc_protocol.proofs.Witness.{run_listed}
 
 -- ---- lists

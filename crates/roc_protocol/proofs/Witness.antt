@@ -41,7 +41,9 @@ use Rattle.roc_protocol.specs.Inner.Given.{SerialLaws, StoreLaws}
 use Rattle.roc_protocol.proofs.Firsts.{begun_means, found_at}
 use Rattle.roc_protocol.proofs.TakenRuns.{none_taken}
 use Rattle.roc_protocol.proofs.KeptRuns.{AreKeptIn, none_kept, are_kept_on}
-use Rattle.roc_protocol.proofs.Worlds.{submissions_from, Agrees, IsLogged, RunsOn, step_logged, ordered_submitted}
+use Rattle.roc_protocol.proofs.AcceptedSubmissions.{submissions_from}
+use Rattle.roc_protocol.proofs.Logged.{Agrees, IsLogged, RunsOn, ordered_submitted}
+use Rattle.roc_protocol.proofs.Worlds.{step_logged}
 use Rattle.roc_protocol.proofs.Onward.{agrees_before}
 
 -- ---- what ran

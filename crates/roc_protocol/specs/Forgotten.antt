@@ -1,5 +1,5 @@
 -- What servers took, in which components, and what nobody has to wait for: docs/PROTOCOL.md, "Forgetting"
-use Rattle.std.specs.Prelude.{◌≡◌, ℕ, ℤ, ◌-◌, List, ◌∷◌, ◌++◌, Some, slice_get}
+use Rattle.std.specs.Prelude.{◌≡◌, ℕ, ℤ, ◌-◌, List, ◌∷◌, ◌++◌, Option, Some, slice_get}
 use Rattle.roc_sequence.specs.Lists.{Has}
 use Rattle.roc_base.specs.declared.id.TxnId.{TxnId}
 use Rattle.roc_base.specs.declared.node.Shard.{Shard}
@@ -10,7 +10,9 @@ use Rattle.roc_component.specs.Components.{Mates}
 use Rattle.roc_msg.specs.declared.msg.Msg.TheVariants.{StartOk}
 use Rattle.roc_msg.specs.declared.msg.Envelope.{Envelope}
 use Rattle.roc_audit.specs.History.{WasAnswered}
-use Rattle.roc_protocol.specs.declared.event.Event.TheVariants.{Deliver}
+use Rattle.roc_protocol.specs.declared.event.Event.{Event}
+use Rattle.roc_protocol.specs.declared.event.Event.TheVariants.{Deliver, Stop}
+use Rattle.roc_protocol.specs.declared.event.Kept.TheVariants.{Sent}
 use Rattle.roc_protocol.specs.Quiet.{PrecedesIn}
 use Rattle.roc_protocol.specs.Run.{Stepped}
 use Rattle.roc_protocol.specs.World.{World}
@@ -30,10 +32,15 @@ pub record HasStartedOn (sent : List Envelope) (t : TxnId) (shard : Shard) : Typ
 abbrev pub IsSettledIn : World → TxnId → Type 0
 IsSettledIn w t = (u : TxnId) → Mates (PrecedesIn w.sent) t u → (reply : List ℤ) × WasAnswered w.history u reply
 
+-- the event brings message k to its receiver, which takes it
+pub data Brings : Option Event → ℕ → Type 0 where
+  delivers : (k : ℕ) → Brings (Some (Deliver k)) k
+  stops_at : (shard : Shard) (k many : ℕ) → Brings (Some (Stop shard (Some (k, Sent many)))) k
+
 -- in this step the server of the shard took a component
 pub record IsTakenAt (x : Stepped) (shard : Shard) (component : List TxnId) : Type 0 where
   pub k : ℕ
-  pub delivers : x.event ≡ Some (Deliver k)
+  pub brings : Brings x.event k
   pub message : Envelope
   pub is : slice_get x.outcome.world.sent (k - 1) ≡ Some message
   pub to : message.to ≡ Server shard

@@ -1,5 +1,5 @@
 -- What comes of an event: docs/PROTOCOL.md, "World"
-use Rattle.std.specs.Prelude.{◌≡◌, ℕ, ℤ, ◌-◌, ◌<◌, List, [], ◌∷◌, Some, Result, Ok, Err, map, slice_get}
+use Rattle.std.specs.Prelude.{◌≡◌, ℕ, ℤ, ◌-◌, ◌<◌, List, [], ◌∷◌, Option, Some, None, Result, Ok, Err, map, slice_get}
 use Rattle.roc_base.specs.declared.id.TxnId.{TxnId}
 use Rattle.roc_base.specs.declared.node.Node.{Node}
 use Rattle.roc_base.specs.declared.node.Node.TheVariants.{Server, Coord}
@@ -23,10 +23,13 @@ use Rattle.roc_protocol.specs.Aside.{after_transaction, transaction_tick_sends}
 use Rattle.roc_audit.specs.declared.entry.Entry.{Entry}
 use Rattle.roc_audit.specs.declared.entry.Entry.TheVariants as entry
 use Rattle.roc_protocol.specs.declared.event.Event.{Event}
-use Rattle.roc_protocol.specs.declared.event.Event.TheVariants.{Submit, Deliver, Tick}
+use Rattle.roc_protocol.specs.declared.event.Event.TheVariants.{Submit, Deliver, Tick, Stop}
+use Rattle.roc_protocol.specs.declared.event.Kept.{Kept}
+use Rattle.roc_protocol.specs.declared.event.Kept.TheVariants.{Lost, Sent}
 use Rattle.roc_protocol.specs.declared.event.Seen.{Seen}
 use Rattle.roc_protocol.specs.declared.event.Seen.TheVariants as seen
-use Rattle.roc_protocol.specs.World.{World, mark_delivered, at_server, at_coord}
+use Rattle.roc_step.specs.Restarts.{cut_short}
+use Rattle.roc_protocol.specs.World.{World, sends, mark_delivered, at_server, at_coord}
 
 -- a group that ran, and the shard on which it did
 pub record RanAt : Type 0 where
@@ -100,6 +103,33 @@ abbrev pub Ticks : Plan → World → Node → Outcome → Type 0
 Ticks plan w (Server shard) o = (s : ServerState) × (slice_get w.servers shard.0 ≡ Some s) × (o ≡ served w shard.0 (answered s (server.tick_sends s)))
 Ticks plan w (Coord number) o = (s : CoordState) × (slice_get w.coords number ≡ Some s) × (o ≡ undecided seen.Done (at_coord w number s (transaction_tick_sends plan s) []))
 
+-- ---- a stop: the server of a shard takes a message, or has no record of it; so many of its messages are sent; and it starts again
+
+-- message k was sent to the server of the shard
+pub record IsSentTo (sent : List Envelope) (k shard : ℕ) (m : Envelope) : Type 0 where
+  pub some : 0 < k
+  pub there : slice_get sent (k - 1) ≡ Some m
+  pub to : m.to ≡ Server (record { 0 = shard })
+
+-- the world in which it stops, and what came of the message there
+pub data TransactionStopsIn (plan : Plan) (w : World) (shard : ℕ) (s : ServerState) : Option (ℕ × Kept) → World → ServerStep → Type 0 where
+  at_rest : TransactionStopsIn plan w shard s None w (answered s [])
+  unrecorded : (k : ℕ) (m : Envelope) → IsSentTo w.sent k shard m → TransactionStopsIn plan w shard s (Some (k, Lost)) (mark_delivered w k) (answered s [])
+  recorded : (k many : ℕ) (m : Envelope) (r : ServerStep) → IsSentTo w.sent k shard m → server.Handles plan s m.msg r
+      → TransactionStopsIn plan w shard s (Some (k, Sent many)) (mark_delivered w k) (cut_short many r)
+
+-- the step, and what a tick of the server sends that started again
+abbrev pub transaction_restarted : World → (shard : ℕ) → ServerStep → Outcome
+transaction_restarted w shard r = record (served w shard r) { world = sends (at_server w shard r) (Server (record { 0 = shard })) (server.tick_sends r.state) }
+
+pub record IsTransactionStop (plan : Plan) (w : World) (shard : ℕ) (during : Option (ℕ × Kept)) (o : Outcome) : Type 0 where
+  pub state : ServerState
+  pub there : slice_get w.servers shard ≡ Some state
+  pub before : World
+  pub step : ServerStep
+  pub stops : TransactionStopsIn plan w shard state during before step
+  pub is : o ≡ transaction_restarted before shard step
+
 -- ---- any event
 
 -- o is what comes of an event
@@ -107,3 +137,4 @@ abbrev pub Happens : Plan → World → Event → Outcome → Type 0
 Happens plan w (Submit number proc args) o = (s : CoordState) × (slice_get w.coords number ≡ Some s) × IsSubmissionOf w number proc args (after_transaction plan s proc args) o
 Happens plan w (Deliver k) o = (m : Envelope) × (0 < k) × (slice_get w.sent (k - 1) ≡ Some m) × IsReceived plan (mark_delivered w k) m.msg m.to o
 Happens plan w (Tick node) o = Ticks plan w node o
+Happens plan w (Stop shard during) o = IsTransactionStop plan w shard.0 during o

@@ -1,5 +1,5 @@
 //! The whole protocol of transactions: all nodes and the network, and what comes of each event (`docs/PROTOCOL.md`, "World"). No code
-//! stands here but [`Event`] and [`Seen`].
+//! stands here but [`Event`], [`Kept`] and [`Seen`].
 //!
 //! `specs/World.antt` has the world: servers, coordinators, every message ever sent, the history and the serial order.
 //! `specs/Happens.antt` has what comes of an event: one event changes one node, by that node's own step.
@@ -25,4 +25,4 @@ pub mod beginnings;
 mod event;
 pub mod laws;
 
-pub use event::{Event, Seen};
+pub use event::{Event, Kept, Seen};

@@ -28,7 +28,7 @@ use Rattle.roc_audit.specs.History.{WasSubmitted, WasAnswered, IsToldOnce}
 use Rattle.roc_audit.proofs.Once.{told_nothing, told_more}
 use Rattle.roc_protocol.specs.Beginnings as protocol
 use Rattle.roc_protocol.specs.declared.event.Event.{Event}
-use Rattle.roc_protocol.specs.declared.event.Event.TheVariants.{Submit, Deliver, Tick}
+use Rattle.roc_protocol.specs.declared.event.Event.TheVariants.{Submit, Deliver, Tick, Stop}
 use Rattle.roc_protocol.specs.Happens.{answer_entries}
 use Rattle.roc_protocol.proofs.Firsts.{found_at}
 use Rattle.roc_protocol.proofs.Submissions.{no_submission}
@@ -41,6 +41,7 @@ use Rattle.roc_views.proofs.Numbered.{IsNumbered, numbered}
 use Rattle.roc_views.proofs.Runs.{beside, grows}
 use Rattle.roc_views.proofs.Steps.{tells_before}
 use Rattle.roc_views.proofs.Answering.{Answers, none_answered, one_answered, message_answers, answered_submitted, AreTold, Telling, told_at}
+use Rattle.roc_views.proofs.Stops.{stop_keeps}
 
 -- ---- a message
 
@@ -202,6 +203,7 @@ told_step plan is_view w o numbers sounds (Some (Deliver k)) u h = go h.0.to h.3
         (at_coord (mark_delivered w k) n r.state r.sends (answer_entries r.answer)) refl refl)
 told_step plan is_view w o numbers sounds (Some (Tick (Server shard))) u h = subst (λ (u : Outcome). AreTold u.world) (sym h.4) (told_still w _ o refl refl)
 told_step plan is_view w o numbers sounds (Some (Tick (Coord n))) u h = subst (λ (u : Outcome). AreTold u.world) (sym h.2) (told_still w _ o refl refl)
+told_step plan is_view w o numbers sounds (Some (Stop shard during)) u x = let k = stop_keeps plan w shard.0 during u x in told_still w u.world o k.1 k.0
 
 module _ (plan : Plan) (b : Beginning) (coords : ℕ) (is_view : TxnId → Bool) where
   begun_told : AreTold (begun_world plan b coords)

@@ -9,11 +9,12 @@ use Rattle.roc_law_log.specs.Invariants.{Continues}
 use Rattle.roc_coord.specs.State.{CoordState}
 use Rattle.roc_coord.specs.Submit.{most_transactions, most_pending, next_id}
 use Rattle.roc_protocol.specs.declared.event.Event.{Event}
-use Rattle.roc_protocol.specs.declared.event.Event.TheVariants.{Submit, Deliver, Tick}
+use Rattle.roc_protocol.specs.declared.event.Event.TheVariants.{Submit, Deliver, Tick, Stop}
 use Rattle.roc_protocol.specs.declared.event.Seen.TheVariants as seen
 use Rattle.roc_views.specs.World.{World, mark_delivered}
 use Rattle.roc_views.specs.Happens.{Outcome, IsReceived, Happens}
 use Rattle.roc_views.specs.Run.{Transition}
+use Rattle.roc_views.proofs.Stops.{by_losing}
 use Rattle.roc_views.proofs.TimeSteps.{noted_grows}
 use Rattle.roc_views.proofs.UsedSequences.{Comes, comes_spent, comes_busy, comes_taken, comes}
 
@@ -32,6 +33,9 @@ order_grows plan w (Some (Deliver k)) o (m, some, there, h) = go m.to h
     go (Coord n) (s, at, e) = subst (λ (o : Outcome). Continues w.order o.world.order) (sym e) ([], sym (append-nil w.order))
 order_grows plan w (Some (Tick (Server shard))) o (s, z, there, keeps, e) = subst (λ (o : Outcome). Continues w.order o.world.order) (sym e) ([], sym (append-nil w.order))
 order_grows plan w (Some (Tick (Coord n))) o (s, there, e) = subst (λ (o : Outcome). Continues w.order o.world.order) (sym e) ([], sym (append-nil w.order))
+order_grows plan w (Some (Stop shard during)) o x =
+    by_losing plan w shard.0 during o x (λ (v : World). Continues w.order v.order) ([], sym (append-nil w.order)) (λ k m sent. ([], sym (append-nil w.order)))
+    (λ k m s v r q sent there keeps handles answers servers ran. noted_grows w.order r.decided) (λ u sent undelivered viewing l p. p) (λ v s z p there keeps. p)
 
 not_both : (a b : ℕ) → a < b → b ≤ a → ⊥
 not_both a b l m = omega (arith, l, m)

@@ -1,5 +1,5 @@
 -- The world beside, of transactions alone: what holds of it, and how it takes the steps of servers and coordinators
-use Rattle.std.proofs.Common.{◌≡◌, ◌↔◌, ◌∙◌, ◌⊎◌, inl, inr, ℕ, zero, suc, Bool, true, false, not, cond, List, [], ◌∷◌, ◌++◌, Option, Some, None, refl, sym, ap, subst, append-nil}
+use Rattle.std.proofs.Common.{◌≡◌, ◌↔◌, ◌∙◌, ◌⊎◌, inl, inr, ℕ, zero, suc, Bool, true, false, not, cond, List, [], ◌∷◌, ◌++◌, Option, Some, None, refl, sym, ap, subst, append-nil, ◌≢◌}
 use Rattle.std.specs.Prelude.{slice_get, slice_set}
 use Rattle.std.specs.List.{filter}
 use Rattle.roc_sequence.specs.Lists.{Has}
@@ -22,10 +22,14 @@ use Rattle.roc_protocol.specs.Beside as their_besides
 use Rattle.roc_views.specs.World.{World, sends, at_server, at_coord}
 use Rattle.roc_views.specs.Happens.{Outcome, undecided}
 use Rattle.roc_views.specs.Bare.{bare_step}
-use Rattle.roc_views.specs.Beside.{is_of_view, of_transactions, number_among, IsBeside}
+use Rattle.roc_views.specs.Beside.{is_of_view, of_transactions, number_among, IsBeside, is_of_transaction}
 use Rattle.roc_views.proofs.Sent.{filter_append, envelopes, beside_sends}
 use Rattle.roc_views.proofs.TickSends.{of_transaction}
 use Rattle.roc_views.proofs.Coordinators.{IsCoordSound}
+use Rattle.roc_base.specs.declared.node.Shard.{Shard}
+use Rattle.roc_msg.specs.declared.msg.Envelope.{Envelope}
+use Rattle.roc_protocol.specs.declared.event.Event.TheVariants.{Deliver, Stop}
+use Rattle.roc_protocol.specs.declared.event.Kept.{Kept}
 use Rattle.roc_views.proofs.TakenAlike.{TakesAlike, none_taken}
 
 -- what stands at a place may be put there
@@ -57,6 +61,18 @@ kept_envelopes from (out ∷ outs) = go (is_of_view out.msg) (kept_envelopes fro
     go true h = h
     go false h = ap (λ l. transactions.sent_by from out ∷ l) h
 
+-- what an event of the one world is beside in the other: a delivery of a message of transactions is beside that of it, and only a stop of a server is beside a stop of it
+pub record AreEventsBeside (sent : List Envelope) (e f : Option Event) : Type 0 where
+  pub comes : (k : ℕ) (m : Envelope) → slice_get sent k ≡ Some m → is_of_transaction m ≡ true → e ≡ Some (Deliver (suc k)) → f ≡ Some (Deliver (suc (number_among sent k)))
+  pub stops : (shard : Shard) (during : Option (ℕ × Kept)) → f ≡ Some (Stop shard during) → (own : Option (ℕ × Kept)) × (e ≡ Some (Stop shard own))
+
+-- where a message of transactions is no delivery, none is beside it
+pub never_beside : (sent : List Envelope) (e : Option Event) → ((k : ℕ) → e ≢ Some (Deliver k)) → AreEventsBeside sent e None
+never_beside sent e never = record { comes = λ k m at of d. absurd (never (suc k) d); stops = λ shard during s. absurd (nothing shard during s) }
+  where
+    nothing : (shard : Shard) (during : Option (ℕ × Kept)) → None ≢ Some (Stop shard during)
+    nothing shard during e = cc
+
 module _ (plan : Plan) (is_view : TxnId → Bool) where
   -- what holds of a world beside
   pub record Holds (w : World) (t : transactions.World) : Type 0 where
@@ -66,6 +82,7 @@ module _ (plan : Plan) (is_view : TxnId → Bool) where
   -- what comes beside of a step: an event of the other world, or something aside there, or it stays
   pub record Follows (w : World) (t : transactions.World) (e : Option Event) (o : Outcome) : Type 0 where
     pub event : Option Event
+    pub events : AreEventsBeside w.sent e event
     pub outcome : theirs.Outcome
     pub moves : their_besides.Moves plan t event outcome
     pub holds : Holds o.world outcome.world
@@ -77,9 +94,9 @@ module _ (plan : Plan) (is_view : TxnId → Bool) where
 
   -- ---- the other world
 
-  pub stays : (w : World) (t : transactions.World) (e : Option Event) (what : _) (v : World) → Holds v t → Follows w t e (undecided what v)
-  stays w t e what v h =
-      record { event = None; outcome = theirs.undecided seen.Done t; moves = inl refl; holds = h; components = refl; decided = refl; ran = refl; taken = none_taken _ _ refl refl }
+  pub stays : (w : World) (t : transactions.World) (e : Option Event) → AreEventsBeside w.sent e None → (what : _) (v : World) → Holds v t → Follows w t e (undecided what v)
+  stays w t e none what v h =
+      record { event = None; events = none; outcome = theirs.undecided seen.Done t; moves = inl refl; holds = h; components = refl; decided = refl; ran = refl; taken = none_taken _ _ refl refl }
 
   module _ (w : World) (t : transactions.World) (b : IsBeside is_view w t) where
     -- a coordinator takes a step: what it sends and tells of transactions

@@ -27,7 +27,7 @@ use Rattle.roc_views.specs.World.{World, at_coord, at_coord_tick}
 use Rattle.roc_views.specs.Beside.{is_of_view}
 use Rattle.roc_views.proofs.Sent.{AreOfTransactions}
 use Rattle.roc_views.proofs.Besides.{set_there}
-use Rattle.roc_views.proofs.Steps.{starts_kept}
+use Rattle.roc_views.proofs.AsideSteps.{starts_kept}
 use Rattle.roc_views.proofs.RoundReads.{IsReadOf, reads_are, group_there, again_are}
 use Rattle.roc_views.proofs.CoordMarks.{least_more, new_starts_none, reads_none, tick_tells}
 use Rattle.roc_views.proofs.Comings.{came_sent, came_sends}

@@ -30,7 +30,7 @@ use Rattle.roc_audit.specs.declared.entry.Entry.{Entry}
 use Rattle.roc_audit.specs.declared.entry.Entry.TheVariants.{Submitted}
 use Rattle.roc_protocol.specs.Beginnings as protocol
 use Rattle.roc_protocol.specs.declared.event.Event.{Event}
-use Rattle.roc_protocol.specs.declared.event.Event.TheVariants.{Submit, Deliver, Tick}
+use Rattle.roc_protocol.specs.declared.event.Event.TheVariants.{Submit, Deliver, Tick, Stop}
 use Rattle.roc_protocol.specs.Fits as transactions
 use Rattle.roc_protocol.specs.Fits.{IsServerHere, IsTransactionHere}
 use Rattle.roc_protocol.specs.Happens.{answer_entries}
@@ -43,12 +43,16 @@ use Rattle.roc_protocol.proofs.SubmissionEnds.{IsAnySubmission, any_submission_i
 use Rattle.roc_protocol.proofs.WorldsFit.{numbers_sent, begun_fits as their_begun_fits}
 use Rattle.roc_views.specs.World.{World, Beginning, begun_viewing, begun_world, mark_delivered, at_server, at_coord, at_coord_tick}
 use Rattle.roc_views.specs.Fits.{NamesNodes, IsSentHere, IsViewingHere, IsCoordHere, FitsWorld}
-use Rattle.roc_views.specs.Happens.{Outcome, IsSubmissionOf, IsReceived, Happens}
+use Rattle.roc_views.specs.Happens.{Outcome, IsSubmissionOf, IsReceived, Happens, no_reads, StopsIn, at_rest, unrecorded, recorded}
 use Rattle.roc_views.specs.Run.{Stepped, Transition, IsRunFrom, at_beginning, steps_on}
 use Rattle.roc_views.proofs.OutsHere.{IsOutHere, outs_more, sent_more}
 use Rattle.roc_views.proofs.FitServers.{KeepsViews, server_keeps, reads_keep}
 use Rattle.roc_views.proofs.FitCoords as coords
 use Rattle.roc_views.proofs.FitCoords.{IsViewHeld, Keeps}
+use Rattle.roc_views.proofs.Stops.{by_parts}
+use Rattle.roc_step.specs.Restarts.{cut_short, cut_reads}
+use Rattle.roc_protocol.proofs.Stopping.{all_take}
+use Rattle.roc_protocol.specs.declared.event.Kept.{Kept}
 
 module _ (plan : Plan) (w : World) (fits : FitsWorld plan w) where
   some_shard : 0 < plan.program.shards
@@ -246,6 +250,33 @@ kept plan w fits (Tick (Server shard)) o (s, v, there, keeps, e) =
     (servers.tick_keeps plan (length w.servers) (length w.coords) s (own_shard plan w fits shard.0 s there) (server_here plan w fits shard.0 s there) (server_fits plan w fits shard.0 s there))
     (record { fits = k.0; here = k.1; sends = tt }))
 kept plan w fits (Tick (Coord n)) o (s, there, e) = subst (λ (o : Outcome). FitsWorld plan o.world) (sym e) (ticked_fits plan w fits n s there)
+kept plan w fits (Stop shard during) o x = by_parts plan w shard.0 (FitsWorld plan) again during o x (go during x.before x.step x.reads x.stops)
+  where
+    dropped : (u : World) → FitsWorld plan u → (s : ServerState) (v : Viewing) → slice_get u.servers shard.0 ≡ Some s → FitsWorld plan (at_server u shard.0 (answered s []) (no_reads v))
+    dropped u fits s v there =
+        let q = servers.tick_keeps plan (length u.servers) (length u.coords) s (own_shard plan u fits shard.0 s there) (server_here plan u fits shard.0 s there) (server_fits plan u fits shard.0 s there) in
+        served_fits plan u fits shard.0 s there (answered s []) (no_reads v) (record { state = q.state; fits = q.fits; own = q.own; sends = tt }) (record { fits = tt; here = record { reads = tt }; sends = tt })
+
+    go : (during : Option (ℕ × Kept)) (before : World) (step : ServerStep) (reads : ReadStep) → StopsIn plan w shard.0 x.state x.viewing during before step reads → FitsWorld plan (at_server before shard.0 step reads)
+    go during before step reads at_rest = dropped w fits x.state x.viewing x.there
+    go during before step reads (unrecorded k m sent) = dropped (mark_delivered w k) (comes_fits_in plan w fits k) x.state x.viewing x.there
+    go during before step reads (recorded k many m r q sent handles answers) =
+        let s = x.state in
+        let here = all_has (IsSentHere (length w.servers) (length w.coords)) m w.sent fits.sent_here (has_at w.sent (k - 1) m sent.there) in
+        let kept = server_keeps plan (length w.servers) (length w.coords) s (own_shard plan w fits shard.0 s x.there) (server_here plan w fits shard.0 s x.there) (server_fits plan w fits shard.0 s x.there) m.msg r handles here.names in
+        let v = viewing_fits plan w fits shard.0 x.viewing x.keeps in
+        let read = reads_keep plan (length w.servers) (length w.coords) s x.viewing m.msg r q handles answers here.names v.0 v.1 in
+        served_fits plan (mark_delivered w k) (comes_fits_in plan w fits k) shard.0 s x.there (cut_short many r) (cut_reads many r q)
+        (record { state = kept.state; fits = kept.fits; own = kept.own; sends = all_take _ many r.sends kept.sends })
+        (record { fits = tt; here = record { reads = tt }; sends = all_take _ (many - length r.sends) q.sends read.sends })
+
+    again : (w : World) (s : ServerState) (v : Viewing) → FitsWorld plan w → slice_get w.servers shard.0 ≡ Some s → slice_get w.viewing shard.0 ≡ Some v
+        → FitsWorld plan (at_server w shard.0 (answered s (server.tick_sends s)) (record { viewing = v; sends = [] }))
+    again w s v fits there keeps =
+        let k = viewing_fits plan w fits shard.0 v keeps in
+        served_fits plan w fits shard.0 s there (answered s (server.tick_sends s)) (record { viewing = v; sends = [] })
+        (servers.tick_keeps plan (length w.servers) (length w.coords) s (own_shard plan w fits shard.0 s there) (server_here plan w fits shard.0 s there) (server_fits plan w fits shard.0 s there))
+        (record { fits = k.0; here = k.1; sends = tt })
 
 pub comes_fits : (plan : Plan) (w : World) (e : Option Event) (o : Outcome) → FitsWorld plan w → Transition plan w e o → FitsWorld plan o.world
 comes_fits plan w None o fits h = subst (λ (o : Outcome). FitsWorld plan o.world) (sym h) fits

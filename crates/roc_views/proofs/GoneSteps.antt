@@ -44,13 +44,14 @@ use Rattle.roc_coord.specs.declared.handled.Handled.TheVariants as coord_answer
 use Rattle.roc_coord.specs.declared.handled.SubmitFault.{SubmitFault}
 use Rattle.roc_coord.specs.declared.handled.SubmitFault.TheVariants as fault
 use Rattle.roc_protocol.specs.declared.event.Event.{Event}
-use Rattle.roc_protocol.specs.declared.event.Event.TheVariants.{Submit, Deliver, Tick}
+use Rattle.roc_protocol.specs.declared.event.Event.TheVariants.{Submit, Deliver, Tick, Stop}
 use Rattle.roc_protocol.specs.declared.event.Seen.TheVariants as seen
+use Rattle.roc_protocol.specs.declared.event.Kept.{Kept}
 use Rattle.roc_protocol.specs.Happens.{server_seen, coord_seen}
 use Rattle.roc_protocol.specs.World.{sent_by}
 use Rattle.roc_protocol.proofs.ForgottenHere.{forgotten, over_of}
 use Rattle.roc_views.specs.World.{World, mark_delivered}
-use Rattle.roc_views.specs.Happens.{Outcome, Submits, IsReceived, IsServed}
+use Rattle.roc_views.specs.Happens.{Outcome, Submits, IsReceived, IsServed, StopsIn, at_rest, unrecorded, recorded, restarted}
 use Rattle.roc_views.specs.Run.{Transition}
 use Rattle.roc_views.proofs.Calm.{AreCalm}
 use Rattle.roc_views.proofs.KeptReads.{IsHeld}
@@ -194,7 +195,7 @@ never_at_coord coord_answer.Done e = cc
 never_at_coord (coord_answer.Answered id reply) e = cc
 never_at_coord (coord_answer.Ignored why) e = cc
 
-module _ (plan : Plan) (w : World) (calm : AreCalm plan w)
+module _ (plan : Plan) (w : World) (uncounted : List ℕ) (calm : AreCalm plan (record w { undelivered = uncounted }))
     (decided : (n : ℕ) (s : ServerState) → slice_get w.servers n ≡ Some s → (c : List TxnId) (t : TxnId) → Has c s.lists.taken → Has t c → IsDecided s.lists.links t) where
   served_late : (k : ℕ) (msg : Msg) (n : ℕ) (o : Outcome) → IsServed plan (mark_delivered w k) msg n o → o.seen ≡ seen.Gone → o.world.sent ≡ w.sent
   served_late k msg n o x gone =
@@ -221,6 +222,13 @@ module _ (plan : Plan) (w : World) (calm : AreCalm plan w)
       go (Err fault.Args) k e = absurd k
       go (Err fault.NoMemory) k e = absurd k
 
+  -- a stop is Done, whatever the server answers to the message
+  stops_not_gone : (n : ℕ) (s : ServerState) (v : Viewing) (during : Option (ℕ × Kept)) (before : World) (r : ServerStep) (q : ReadStep) → StopsIn plan w n s v during before r q
+      → (restarted before n r q).seen ≢ seen.Gone
+  stops_not_gone n s v during before r q at_rest e = cc
+  stops_not_gone n s v during before r q (unrecorded k m sent) e = cc
+  stops_not_gone n s v during before r q (recorded k many m whole reads sent handles answers) e = cc
+
   pub gone_silent : (e : Option Event) (o : Outcome) → Transition plan w e o → o.seen ≡ seen.Gone → o.world.sent ≡ w.sent
   gone_silent None o h gone = ap (λ (o : Outcome). o.world.sent) h
   gone_silent (Some (Submit n proc args)) o (s, there, h) gone = absurd (submits_not_gone n proc args (after_submit plan s proc args) o h gone)
@@ -231,3 +239,4 @@ module _ (plan : Plan) (w : World) (calm : AreCalm plan w)
       go (Coord n) (s, at, e) = absurd (never_at_coord (coord.after_message plan s m.msg).answer (sym (ap (λ (o : Outcome). o.seen) e) ∙ gone))
   gone_silent (Some (Tick (Server shard))) o (s, z, there, keeps, h) gone = absurd (let f = sym (ap (λ (o : Outcome). o.seen) h) ∙ gone in cc)
   gone_silent (Some (Tick (Coord n))) o (s, there, h) gone = absurd (let f = sym (ap (λ (o : Outcome). o.seen) h) ∙ gone in cc)
+  gone_silent (Some (Stop shard during)) o x gone = absurd (stops_not_gone shard.0 x.state x.viewing during x.before x.step x.reads x.stops (sym (ap (λ (o : Outcome). o.seen) x.is) ∙ gone))

@@ -6,6 +6,10 @@ pub mod ServerSends
 pub mod CoordSteps
 pub mod TakenAlike
 pub mod Besides
+pub mod Stops
+pub mod AsideSteps
+pub mod ServerSteps
+pub mod StopSteps
 pub mod Steps
 pub mod Runs
 pub mod Versions
@@ -18,6 +22,7 @@ pub mod RoundReads
 pub mod ViewRounds
 pub mod ReadOksTaken
 pub mod BesideRuns
+pub mod Losing
 pub mod ViewRuns
 pub mod WholeViews
 pub mod InTime
@@ -44,6 +49,7 @@ pub mod CalmCoords
 pub mod CalmSubmissions
 pub mod CalmRounds
 pub mod CalmMessages
+pub mod CalmStops
 pub mod CalmRuns
 pub mod QuietViews
 pub mod QuietBeside
@@ -64,6 +70,7 @@ pub mod AnsweredBelow
 pub mod TakenDecided
 pub mod FetchedThere
 pub mod GoneSteps
+pub mod WithoutStops
 pub mod Alone
 pub mod SmallestRun
 pub mod ObservedTransaction

@@ -21,7 +21,7 @@ use Rattle.roc_audit.specs.declared.entry.Entry.{Entry}
 use Rattle.roc_audit.specs.declared.entry.Entry.TheVariants.{Submitted, Answered}
 use Rattle.roc_protocol.specs.Beginnings as protocol
 use Rattle.roc_protocol.specs.declared.event.Event.{Event}
-use Rattle.roc_protocol.specs.declared.event.Event.TheVariants.{Submit, Deliver, Tick}
+use Rattle.roc_protocol.specs.declared.event.Event.TheVariants.{Submit, Deliver, Tick, Stop}
 use Rattle.roc_protocol.specs.Happens.{answer_entries}
 use Rattle.roc_protocol.proofs.Firsts.{found_at}
 use Rattle.roc_views.specs.World.{World, Beginning, mark_delivered, at_coord}
@@ -29,6 +29,7 @@ use Rattle.roc_views.specs.Happens.{Outcome, IsReceived, IsSubmissionOf}
 use Rattle.roc_views.specs.Run.{Stepped, Transition, IsRunFrom, at_beginning, steps_on}
 use Rattle.roc_views.proofs.ViewsStay.{get-set_here, get-set_other, get-set_cases}
 use Rattle.roc_protocol.proofs.Submissions.{keeps_number}
+use Rattle.roc_views.proofs.Stops.{by_losing}
 
 -- what was submitted has a sequence that its coordinator used, and was submitted once
 pub record IsNumbered (w : World) : Type 0 where
@@ -146,6 +147,10 @@ numbered_step plan w o (Some (Deliver k)) u (m, some, there, h) = go m.to h
         (answer_entries r.answer) refl (not_told r.answer))
 numbered_step plan w o (Some (Tick (Server shard))) u (s, v, there, keeps, e) = subst (λ (u : Outcome). IsNumbered u.world) (sym e) (record { numbers = o.numbers; given = o.given; one = o.one })
 numbered_step plan w o (Some (Tick (Coord n))) u (s, there, e) = subst (λ (u : Outcome). IsNumbered u.world) (sym e) (record { numbers = o.numbers; given = o.given; one = o.one })
+numbered_step plan w o (Some (Stop shard during)) u x =
+    by_losing plan w shard.0 during u x IsNumbered o (λ k m sent. record { numbers = o.numbers; given = o.given; one = o.one })
+    (λ k m s v r q sent there keeps handles answers servers ran. record { numbers = o.numbers; given = o.given; one = o.one }) (λ u sent undelivered viewing l o. record { numbers = o.numbers; given = o.given; one = o.one })
+    (λ v s z o there keeps. record { numbers = o.numbers; given = o.given; one = o.one })
 
 pub numbered : (plan : Plan) (b : Beginning) (coords : ℕ) (steps : List Stepped) (w : World) → IsRunFrom plan b coords steps w → IsNumbered w
 numbered plan b coords steps w at_beginning =

@@ -1,6 +1,6 @@
 -- And it goes on with a view, which reads the cell and is answered; then the transaction is forgotten, and its start comes too late. Each step computes,
 -- but for what stores and counts hold
-use Rattle.std.proofs.Common.{zero, suc, inl, ◌++◌, ◌≡◌, ◌∙◌, ◌+◌, ◌-◌, ◌^◌, min, ℕ, pos, List, [], ◌∷◌, Some, refl, sym, ap, subst, arith}
+use Rattle.std.proofs.Common.{zero, suc, inl, ◌++◌, ◌≡◌, ◌∙◌, ◌+◌, ◌-◌, ◌^◌, min, ℕ, pos, List, [], ◌∷◌, Option, Some, map, refl, sym, ap, subst, arith}
 use Rattle.std.specs.List.{AllByRecursion}
 use Rattle.std.specs.Prelude.{slice_get, take, drop}
 use Rattle.roc_sequence.specs.Lists.{Has}
@@ -16,16 +16,18 @@ use Rattle.roc_rows.proofs.Counts.{version-unwritten, version-counted_same}
 use Rattle.roc_rows.proofs.Stored.{read-write_same}
 use Rattle.roc_step.specs.Below.{none_below, raised}
 use Rattle.roc_step.specs.Reads.{AnswersReads}
-use Rattle.roc_step.specs.declared.handled.Handled.TheVariants.{Done, Gone}
+use Rattle.roc_step.specs.declared.handled.Handled.TheVariants.{Gone}
 use Rattle.roc_step.specs.State.{answered, refused, ServerState}
 use Rattle.roc_step.specs.Step.{Handles}
 use Rattle.roc_readonly.specs.declared.view.View.{View}
 use Rattle.roc_readonly.specs.Round.{first_round}
 use Rattle.roc_coord.specs.State.{CoordState}
 use Rattle.roc_audit.specs.declared.entry.Entry.TheVariants.{Submitted, Answered}
+use Rattle.roc_protocol.specs.declared.event.Event.{Event}
 use Rattle.roc_protocol.specs.declared.event.Event.TheVariants.{Submit, Deliver, Tick}
 use Rattle.roc_protocol.specs.declared.event.Seen.TheVariants as seen
-use Rattle.roc_protocol.specs.Forgotten.{IsLastTaken}
+use Rattle.roc_protocol.specs.Forgotten.{IsLastTaken, delivers}
+use Rattle.roc_protocol.specs.Quiet.{Counts}
 use Rattle.roc_protocol.specs.Run as their_runs
 use Rattle.roc_law_plans.specs.SmallPlans.{observed}
 use Rattle.roc_views.specs.Bare.{bare_step, bare_steps}
@@ -33,6 +35,7 @@ use Rattle.roc_views.specs.World.{World}
 use Rattle.roc_views.specs.Happens.{Outcome, undecided, Happens}
 use Rattle.roc_views.specs.Run.{Stepped, IsRun, at_beginning, steps_on}
 use Rattle.roc_views.specs.Quiet.{IsQuiet, IsInLastRound}
+use Rattle.roc_views.proofs.WithoutStops.{counts_at}
 use Rattle.roc_views.proofs.Alone.{decided_of_none, decided_alone, led_to_none, new_of_none, none_new}
 use Rattle.roc_views.proofs.ObservedTransaction.{shard, id, view, cell, server, coord, to_server, to_coord, submitted_coord, start, startok, none_found, commit, one_list, decided_server, written_viewing, commitok, decides, answered_world, submits, starts, commits, runs, answers}
 
@@ -230,9 +233,30 @@ run =
     let twelve = steps_on (Some (Deliver 9)) _ eleven forgets in
     (_, steps_on (Some (Deliver 1)) _ twelve comes_late)
 
--- each message was delivered
+-- each message was delivered, and no server stopped
+abbrev its_events : List (Option Event)
+its_events =
+    Some (Submit 0 0 []) ∷ Some (Deliver 1) ∷ Some (Deliver 2) ∷ Some (Deliver 3) ∷ Some (Deliver 4) ∷ Some (Submit 0 1 []) ∷ Some (Deliver 5) ∷ Some (Deliver 6) ∷ Some (Deliver 7) ∷ Some (Deliver 8)
+    ∷ Some (Tick (Coord 0)) ∷ Some (Deliver 9) ∷ Some (Deliver 1) ∷ []
+
+events_are : map (λ (s : Stepped). s.event) run.0 ≡ its_events
+unfolding run
+events_are = refl
+
+all_count : (k : ℕ) (m : Envelope) → slice_get last_world.sent k ≡ Some m → Counts its_events last_world.sent (suc k)
+all_count zero m e = counts_at its_events last_world.sent 1 1 refl refl
+all_count (suc zero) m e = counts_at its_events last_world.sent 2 2 refl refl
+all_count (suc (suc zero)) m e = counts_at its_events last_world.sent 3 3 refl refl
+all_count (suc (suc (suc zero))) m e = counts_at its_events last_world.sent 4 4 refl refl
+all_count (suc (suc (suc (suc zero)))) m e = counts_at its_events last_world.sent 6 5 refl refl
+all_count (suc (suc (suc (suc (suc zero))))) m e = counts_at its_events last_world.sent 7 6 refl refl
+all_count (suc (suc (suc (suc (suc (suc zero)))))) m e = counts_at its_events last_world.sent 8 7 refl refl
+all_count (suc (suc (suc (suc (suc (suc (suc zero))))))) m e = counts_at its_events last_world.sent 9 8 refl refl
+all_count (suc (suc (suc (suc (suc (suc (suc (suc zero)))))))) m e = counts_at its_events last_world.sent 11 9 refl refl
+all_count (suc (suc (suc (suc (suc (suc (suc (suc (suc k))))))))) m e = absurd (cc)
+
 pub quiet : IsQuiet observed run.0 last_world view
-quiet = record { each = λ k m u h e r. λ n. n }
+quiet = record { each = λ k m u h e r. subst (λ events. Counts events last_world.sent (suc k)) (sym events_are) (all_count k m h) }
 
 -- no view is open
 pub not_last : ¬ IsInLastRound last_world view
@@ -261,7 +285,7 @@ taken_last =
       step = bare_step (record { event = Some (Deliver 3); outcome = decides });
       behind = drop 4 (bare_steps run.0);
       at = refl;
-      taken = record { k = 3; delivers = refl; message = commit; is = refl; to = refl; has = inl refl };
+      taken = record { k = 3; brings = delivers 3; message = commit; is = refl; to = refl; has = inl refl };
       member = inl refl;
       none = λ x c h t. absurd (subst (Has c) (all_has (λ (x : their_runs.Stepped). x.outcome.components ≡ []) x behind none_behind h) t.has);
     }

@@ -21,11 +21,15 @@ use Rattle.roc_coord.specs.Step.{after_message}
 use Rattle.roc_coord.specs.Submit.{after_submit}
 use Rattle.roc_coord.specs.Tick as coord
 use Rattle.roc_protocol.specs.declared.event.Event.{Event}
-use Rattle.roc_protocol.specs.declared.event.Event.TheVariants.{Submit, Deliver, Tick}
+use Rattle.roc_protocol.specs.declared.event.Event.TheVariants.{Submit, Deliver, Tick, Stop}
 use Rattle.roc_protocol.specs.declared.event.Seen.TheVariants as seen
 use Rattle.roc_views.specs.World.{World, Beginning, mark_delivered, at_coord_tick}
-use Rattle.roc_views.specs.Happens.{Outcome, undecided, Submits, IsSubmissionOf, served, coordinated, IsServed, IsReceived, Ticks, Happens}
+use Rattle.roc_views.specs.Happens.{Outcome, undecided, Submits, IsSubmissionOf, served, coordinated, IsServed, IsReceived, Ticks, Happens, IsStopped, restarted}
 use Rattle.roc_views.specs.Run.{Stepped, Transition, IsRunFrom, at_beginning, steps_on}
+use Rattle.roc_views.proofs.Stops.{Stopped, stopped_by}
+use Rattle.roc_step.specs.Restarts.{cut_short, cut_reads}
+use Rattle.roc_protocol.specs.declared.event.Kept.{Kept}
+use Rattle.roc_protocol.specs.declared.event.Kept.TheVariants.{Lost, Sent}
 
 module _ (plan : Plan) (one : (s : ServerState) (msg : Msg) (r other : ServerStep) → Handles plan s msg r → Handles plan s msg other → r ≡ other)
     (one_read : (v : Viewing) (msg : Msg) (r : ServerStep) (q other : ReadStep) → AnswersReads plan v msg r q → AnswersReads plan v msg r other → q ≡ other) where
@@ -67,6 +71,26 @@ module _ (plan : Plan) (one : (s : ServerState) (msg : Msg) (r other : ServerSte
         let same : s ≡ t = same_there w.coords n s t there there2 in
         is ∙ (ap (λ (u : CoordState). undecided seen.Done (at_coord_tick w n (coord.tick_sends plan u))) same ∙ sym is2)
 
+    one_stop : (n : ℕ) (during : Option (ℕ × Kept)) (o other : Outcome) → IsStopped plan w n during o → IsStopped plan w n during other → o ≡ other
+    one_stop n during o other x y =
+        let state : x.state ≡ y.state = same_there w.servers n x.state y.state x.there y.there in
+        let viewing : x.viewing ≡ y.viewing = same_there w.viewing n x.viewing y.viewing x.keeps y.keeps in
+        let mine = subst (λ v. Stopped plan w n y.state v during x.before x.step x.reads) viewing (subst (λ s. Stopped plan w n s x.viewing during x.before x.step x.reads) state (stopped_by plan w n x.state x.viewing during x.before x.step x.reads x.stops)) in
+        let ends = go during mine (stopped_by plan w n y.state y.viewing during y.before y.step y.reads y.stops) in
+        x.is ∙ ((λ i. restarted (ends.0 i) n (ends.1 i) (ends.2 i)) ∙ sym y.is)
+      where
+        go : (during : Option (ℕ × Kept)) → Stopped plan w n y.state y.viewing during x.before x.step x.reads → Stopped plan w n y.state y.viewing during y.before y.step y.reads
+            → (x.before ≡ y.before) × (x.step ≡ y.step) × (x.reads ≡ y.reads)
+        go None a b = (a.0 ∙ sym b.0, a.1 ∙ sym b.1, a.2 ∙ sym b.2)
+        go (Some (k, Lost)) a b = (a.0 ∙ sym b.0, a.1 ∙ sym b.1, a.2 ∙ sym b.2)
+        go (Some (k, Sent many)) (m, r, q, sent, handles, answers, before, step, reads) (m2, r2, q2, sent2, handles2, answers2, before2, step2, reads2) =
+            let message : m ≡ m2 = same_there w.sent (k - 1) m m2 sent.there sent2.there in
+            let steps : r ≡ r2 = one y.state m2.msg r r2 (subst (λ (m : Envelope). Handles plan y.state m.msg r) message handles) handles2 in
+            let moved : AnswersReads plan y.viewing m2.msg r2 q =
+            subst (λ (r : ServerStep). AnswersReads plan y.viewing m2.msg r q) steps (subst (λ (m : Envelope). AnswersReads plan y.viewing m.msg r q) message answers) in
+            let read : q ≡ q2 = one_read y.viewing m2.msg r2 q q2 moved answers2 in
+            (before ∙ sym before2, step ∙ (ap (cut_short many) steps ∙ sym step2), reads ∙ ((λ i. cut_reads many (steps i) (read i)) ∙ sym reads2))
+
   pub one_event : (w : World) (e : Event) (o other : Outcome) → Happens plan w e o → Happens plan w e other → o ≡ other
   one_event w (Submit n proc args) o other (s, there, h) (t, there2, k) =
       let same : s ≡ t = same_there w.coords n s t there there2 in
@@ -76,6 +100,7 @@ module _ (plan : Plan) (one : (s : ServerState) (msg : Msg) (r other : ServerSte
       let same : m ≡ n = same_there w.sent (k - 1) m n there there2 in
       one_delivery (mark_delivered w k) n.msg n.to o other (subst (λ (x : Envelope). IsReceived plan (mark_delivered w k) x.msg x.to o) same c) d
   one_event w (Tick node) o other h k = one_tick w node o other h k
+  one_event w (Stop shard during) o other h k = one_stop w shard.0 during o other h k
 
   pub one_step : (w : World) (e : Option Event) (o other : Outcome) → Transition plan w e o → Transition plan w e other → o ≡ other
   one_step w None o other h k = h ∙ sym k

@@ -15,8 +15,8 @@ use Rattle.roc_msg.specs.declared.msg.Envelope.{Envelope}
 use Rattle.roc_msg.specs.declared.msg.Msg.{Msg}
 use Rattle.roc_plan.specs.Groups.{Plan, procedure_of, is_view_of}
 use Rattle.roc_readonly.specs.Round.{first_round}
-use Rattle.roc_step.specs.Reads.{reads_behind}
-use Rattle.roc_step.specs.State.{answered}
+use Rattle.roc_step.specs.Reads.{reads_behind, ReadStep}
+use Rattle.roc_step.specs.State.{answered, ServerState, ServerStep, Viewing}
 use Rattle.roc_step.specs.Step as server
 use Rattle.roc_coord.specs.State.{CoordState}
 use Rattle.roc_coord.specs.Step.{after_message}
@@ -24,16 +24,19 @@ use Rattle.roc_coord.specs.Submit.{next_id, new_transaction, accepted, accepted_
 use Rattle.roc_coord.specs.Tick as coord
 use Rattle.roc_audit.specs.declared.entry.Entry.TheVariants.{Submitted}
 use Rattle.roc_protocol.specs.declared.event.Event.{Event}
-use Rattle.roc_protocol.specs.declared.event.Event.TheVariants.{Submit, Deliver, Tick}
+use Rattle.roc_protocol.specs.declared.event.Event.TheVariants.{Submit, Deliver, Tick, Stop}
 use Rattle.roc_protocol.specs.declared.event.Seen.TheVariants as seen
 use Rattle.roc_protocol.specs.Fits.{IsNode}
 use Rattle.roc_protocol.proofs.Findings.{decided_there, handled}
 use Rattle.roc_protocol.proofs.SubmissionEnds.{IsAnySubmission, any_submission_is, unknown, miscounted, spent, busy, taken}
 use Rattle.roc_views.specs.World.{World, Beginning, begun_world, mark_delivered, at_coord, at_coord_tick}
 use Rattle.roc_views.specs.Fits.{IsSentHere, FitsWorld}
-use Rattle.roc_views.specs.Happens.{Outcome, undecided, IsSubmissionOf, served, coordinated, IsReceived, Happens}
-use Rattle.roc_views.specs.Run.{Stepped, IsRunFrom, at_beginning, steps_on, IsEventOf, MayHappenFrom}
+use Rattle.roc_views.specs.Happens.{Outcome, undecided, IsSubmissionOf, served, coordinated, IsReceived, Happens, no_reads, StopsIn, at_rest, unrecorded, recorded, restarted}
+use Rattle.roc_views.specs.Run.{Stepped, IsRunFrom, at_beginning, steps_on, IsEventOf, MayHappenFrom, IsSentIn}
 use Rattle.roc_views.proofs.FitWorlds.{kept, run_fits}
+use Rattle.roc_step.specs.Restarts.{cut_short, cut_reads}
+use Rattle.roc_protocol.specs.declared.event.Kept.{Kept}
+use Rattle.roc_protocol.specs.declared.event.Kept.TheVariants.{Lost, Sent}
 
 -- what stands at a place of a list
 there : {A : Type 0} (xs : List A) (n : ℕ) → n < length xs → (a : A) × (slice_get xs n ≡ Some a)
@@ -77,6 +80,12 @@ event_of plan w (Submit n proc args) o (s, at, h) = let fit = submitted plan w n
 event_of plan w (Deliver k) o (m, some, at, h) = (some, (let within = slice_get_within w.sent (k - 1) m at in omega arith))
 event_of plan w (Tick (Server shard)) o (s, v, at, keeps, h) = slice_get_within w.servers shard.0 s at
 event_of plan w (Tick (Coord n)) o (s, at, h) = slice_get_within w.coords n s at
+event_of plan w (Stop shard during) o x = (slice_get_within w.servers shard.0 x.state x.there, go during x.before x.step x.reads x.stops)
+  where
+    go : (during : Option (ℕ × Kept)) (before : World) (step : ServerStep) (reads : ReadStep) → StopsIn plan w shard.0 x.state x.viewing during before step reads → IsSentIn w shard.0 during
+    go during before step reads at_rest = tt
+    go during before step reads (unrecorded k m sent) = (m, sent)
+    go during before step reads (recorded k many m r q sent handles answers) = (m, sent)
 
 module _ (exists : (known : List KnownList) (M : List TxnId) → (xs : List TxnId) × IsComponentOrderOf known M xs)
     (one : (known : List KnownList) (M N xs ys : List TxnId) → HaveSameMembers M N → IsComponentOrderOf known M xs → IsComponentOrderOf known N ys → xs ≡ ys) (plan : Plan) (w : World) where
@@ -103,6 +112,21 @@ module _ (exists : (known : List KnownList) (M : List TxnId) → (xs : List TxnI
       let v = there w.viewing shard.0 (omega (arith, each, l)) in
       (served w shard.0 (answered s.0 (server.tick_sends s.0)) (record { viewing = v.0; sends = [] }), (s.0, v.0, s.1, v.1, refl))
   happens (Tick (Coord n)) l = let s = there w.coords n l in (undecided seen.Done (at_coord_tick w n (coord.tick_sends plan s.0)), (s.0, s.1, refl))
+  happens (Stop shard during) (l, sent) =
+      let each = fits.each_views in
+      let s = there w.servers shard.0 l in
+      let v = there w.viewing shard.0 (omega (arith, each, l)) in
+      let x = stops s.0 v.0 during sent in
+      (restarted x.0 shard.0 x.1 x.2, record { state = s.0; there = s.1; viewing = v.0; keeps = v.1; before = x.0; step = x.1; reads = x.2; stops = x.3; is = refl })
+    where
+      stops : (s : ServerState) (v : Viewing) (during : Option (ℕ × Kept)) → IsSentIn w shard.0 during → (before : World) × (step : ServerStep) × (reads : ReadStep) × StopsIn plan w shard.0 s v during before step reads
+      stops s v None sent = (w, answered s [], no_reads v, at_rest)
+      stops s v (Some (k, Lost)) (m, sent) = (mark_delivered w k, answered s [], no_reads v, unrecorded k m sent)
+      stops s v (Some (k, Sent many)) (m, sent) =
+          let r = handled exists one plan s m.msg in
+          let d = decided_there r.0.state.lists.links in
+          let q = reads_behind plan d.0 v m.msg r.0 in
+          (mark_delivered w k, cut_short many r.0, cut_reads many r.0 q, recorded k many m r.0 q sent r.1 (record { decided = d.0; found = d.1; is = refl }))
   happens (Deliver k) (some, sent) = delivered (there w.sent (k - 1) (omega arith))
     where
       delivered : (m : Envelope) × (slice_get w.sent (k - 1) ≡ Some m) → (o : Outcome) × Happens plan w (Deliver k) o

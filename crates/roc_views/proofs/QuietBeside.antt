@@ -1,5 +1,5 @@
 -- What is quiet in a world with views is quiet beside
-use Rattle.std.proofs.Common.{◌≡◌, inl, inr, suc, Bool, List, Some, sym, subst}
+use Rattle.std.proofs.Common.{◌≡◌, inl, inr, suc, Bool, List, Some, subst, map}
 use Rattle.std.specs.Prelude.{slice_get}
 use Rattle.roc_sequence.specs.Lists.{Has}
 use Rattle.roc_sequence.proofs.Members.{from_has_filter}
@@ -14,6 +14,7 @@ use Rattle.roc_views.specs.Run.{Stepped}
 use Rattle.roc_views.specs.Beside.{is_of_transaction, IsBeside}
 use Rattle.roc_views.specs.Quiet.{AreDelivered}
 use Rattle.roc_views.proofs.Ranks.{from_rank}
+use Rattle.roc_views.proofs.Runs.{AreCountsBeside}
 
 module _ (is_view : TxnId → Bool) (w : World) (t : transactions.World) (o : IsBeside is_view w t) where
   -- a startok of the one network is in the other
@@ -44,10 +45,11 @@ module _ (is_view : TxnId → Bool) (w : World) (t : transactions.World) (o : Is
   reaches_or_is u x (inl e) = inl e
   reaches_or_is u x (inr r) = inr (reaches u x r)
 
-  pub quiet_beside : (plan : Plan) (steps : List Stepped) (others : List their_runs.Stepped) (x : TxnId) → AreDelivered (theirs.PrecedesIn w.sent) steps w x → theirs.IsQuiet plan others t x
-  quiet_beside plan steps others x q =
+  pub quiet_beside : (plan : Plan) (steps : List Stepped) (others : List their_runs.Stepped) → AreCountsBeside (map (λ (s : Stepped). s.event) steps) (map (λ (s : their_runs.Stepped). s.event) others) w t
+      → (x : TxnId) → AreDelivered (theirs.PrecedesIn w.sent) steps w x → theirs.IsQuiet plan others t x
+  quiet_beside plan steps others c x q =
       record {
-        each = λ k m u at of r left.
+        each = λ k m u at of r.
             (let f = from_rank is_of_transaction w.sent k m (subst (λ l. slice_get l k ≡ Some m) o.sent at) in
-            q.each f.0 m u f.1 of (reaches_or_is u x r) ((o.undelivered f.0 m f.1 f.2).1 (subst (λ n. Has (suc n) t.undelivered) (sym f.3) left)));
+            subst (λ n. theirs.Counts (map (λ (s : their_runs.Stepped). s.event) others) t.sent (suc n)) f.3 (c.counts f.0 m f.1 f.2 (q.each f.0 m u f.1 of (reaches_or_is u x r))));
       }

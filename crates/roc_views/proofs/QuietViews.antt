@@ -1,5 +1,5 @@
--- An open view is in its last round, unless a message of it, or of what it waits for, was not delivered
-use Rattle.std.proofs.Common.{◌≡◌, ◌∙◌, inl, inr, ℕ, ℤ, ◌<◌, true, List, Some, is_some, length, sym, ap, subst, refl}
+-- An open view is in its last round, unless of a message of it, or of what it waits for, no delivery counts
+use Rattle.std.proofs.Common.{◌≡◌, ◌∙◌, inl, inr, ℕ, ℤ, ◌<◌, true, List, Some, is_some, length, sym, ap, subst, refl, suc, map}
 use Rattle.std.specs.Prelude.{slice_get}
 use Rattle.roc_sequence.specs.Lists.{Has}
 use Rattle.roc_sequence.proofs.Holds.{has_all, all_pass}
@@ -26,17 +26,21 @@ use Rattle.roc_views.proofs.Comings.{Came, stands_at}
 use Rattle.roc_views.proofs.RoundReads.{group_there}
 use Rattle.roc_views.proofs.Calm.{read_of, IsKept, Done, IsCalm, AreCalm}
 
-module _ (plan : Plan) (w : World) (a : AreCalm plan w) (steps : List Stepped)
+module _ (plan : Plan) (w : World) (uncounted : List ℕ) (a : AreCalm plan (record w { undelivered = uncounted })) (steps : List Stepped)
+    (counted : (k : ℕ) → transactions.Counts (map (λ (s : Stepped). s.event) steps) w.sent (suc k) → ¬ Has (suc k) uncounted)
     (decided : (t : TxnId) → AreDelivered (transactions.PrecedesIn w.sent) steps w t → (shard : Shard) (s : ServerState) → slice_get w.servers shard.0 ≡ Some s
     → (e : StartedGroup) → Has e s.started → e.id ≡ t → IsDecided s.lists.links t)
     (t : TxnId) (quiet : IsQuiet plan steps w t) where
   module _ (c : CoordState) (at : slice_get w.coords t.coord ≡ Some c) (v : View) (has : Has v c.views) (id : v.id ≡ t) where
-    abbrev calm : IsCalm plan w v
+    abbrev now : World
+    now = record w { undelivered = uncounted }
+
+    abbrev calm : IsCalm plan (record w { undelivered = uncounted }) v
     calm = a.views t.coord c at v has
 
     -- each message of it in the network was delivered
-    its_came : (m : Envelope) → Has m w.sent → (msg : Msg) → m.msg ≡ msg → id_of msg ≡ Some v.id → Came w m
-    its_came m h msg is of = let p = stands_at w.sent m h in (p.0, p.1, quiet.each p.0 m t p.1 (ap id_of is ∙ (of ∙ ap (λ t. Some t) id)) (inl refl))
+    its_came : (m : Envelope) → Has m w.sent → (msg : Msg) → m.msg ≡ msg → id_of msg ≡ Some v.id → Came (record w { undelivered = uncounted }) m
+    its_came m h msg is of = let p = stands_at w.sent m h in (p.0, p.1, counted p.0 (quiet.each p.0 m t p.1 (ap id_of is ∙ (of ∙ ap (λ t. Some t) id)) (inl refl)))
 
     -- no read of the round under way is kept: who holds it up precedes the view, and so is decided
     none_kept : (g : ℕ) → ¬ IsKept plan w.viewing v g
@@ -72,9 +76,9 @@ module _ (plan : Plan) (w : World) (a : AreCalm plan w) (steps : List Stepped)
     group_taken : (g : ℕ) → g < length (groups_of plan v.proc) → is_some (find_read g v.got) ≡ true
     group_taken g l =
         let r = calm.sent g l in
-        elim (subst (Done plan w v) r.2 (calm.came r.0 (its_came r.0 r.1 _ r.2 refl)) refl refl) [
+        elim (subst (Done plan now v) r.2 (calm.came r.0 (its_came r.0 r.1 _ r.2 refl)) refl refl) [
           | inl kept ↦ absurd (none_kept g kept)
-          | inr told ↦ subst (Done plan w v) told.5 (calm.came told.0 (its_came told.0 told.1 _ told.5 refl)) refl refl
+          | inr told ↦ subst (Done plan now v) told.5 (calm.came told.0 (its_came told.0 told.1 _ told.5 refl)) refl refl
         ]
 
     full : is_full plan v ≡ true

@@ -1,7 +1,7 @@
 -- In every world reads and readoks are of the views that were submitted, with the plan's counts
 use Rattle.std.proofs.Common.{◌≡◌, ◌∙◌, inl, inr, ℕ, ℤ, ◌==◌, Bool, true, false, not, List, [], ◌∷◌, ◌++◌, Option, Some, None, map, length, refl, sym, ap, subst}
 use Rattle.std.proofs.lemmas.Bool.{eqb-true}
-use Rattle.std.specs.Prelude.{slice_get, if◌then◌else◌, nat_lt, nat_le}
+use Rattle.std.specs.Prelude.{slice_get, if◌then◌else◌, nat_lt, nat_le, slice_set}
 use Rattle.roc_sequence.specs.Lists.{Has}
 use Rattle.roc_sequence.proofs.Members.{has_append, has_left, has_right, has_more, has_at}
 use Rattle.roc_base.specs.declared.id.TxnId.{TxnId}
@@ -12,7 +12,7 @@ use Rattle.roc_msg.specs.declared.outbox.Outgoing.{Outgoing}
 use Rattle.roc_plan.specs.Groups.{Plan, procedure_of, is_view_of}
 use Rattle.roc_plan.specs.Accepted.{IsAccepted}
 use Rattle.roc_whole.specs.Serial as whole
-use Rattle.roc_step.specs.State.{ServerState, ServerStep, Viewing}
+use Rattle.roc_step.specs.State.{ServerState, ServerStep, Viewing, answered}
 use Rattle.roc_step.specs.Step as server
 use Rattle.roc_coord.specs.declared.handled.SubmitFault.{SubmitFault}
 use Rattle.roc_coord.specs.declared.handled.SubmitFault.TheVariants as fault
@@ -26,21 +26,24 @@ use Rattle.roc_audit.specs.declared.entry.Entry.{Entry}
 use Rattle.roc_audit.specs.declared.entry.Entry.TheVariants.{Submitted}
 use Rattle.roc_protocol.specs.Beginnings as protocol
 use Rattle.roc_protocol.specs.declared.event.Event.{Event}
-use Rattle.roc_protocol.specs.declared.event.Event.TheVariants.{Submit, Deliver, Tick}
+use Rattle.roc_protocol.specs.declared.event.Event.TheVariants.{Submit, Deliver, Tick, Stop}
 use Rattle.roc_protocol.specs.World.{sent_by}
 use Rattle.roc_protocol.proofs.AskedFor.{run_asked}
 use Rattle.roc_protocol.proofs.Firsts.{found_at}
-use Rattle.roc_views.specs.World.{World, Beginning, begun_world, begun_viewing, mark_delivered, at_coord}
-use Rattle.roc_views.specs.Happens.{Outcome, IsSubmissionOf, IsServed, IsReceived}
+use Rattle.roc_views.specs.World.{World, Beginning, begun_world, begun_viewing, mark_delivered, at_coord, at_server}
+use Rattle.roc_views.specs.Happens.{Outcome, IsSubmissionOf, IsServed, IsReceived, served}
 use Rattle.roc_views.specs.Run.{Stepped, Transition, IsRunFrom, at_beginning, steps_on}
 use Rattle.roc_views.proofs.Coordinators.{IsCoordSound}
 use Rattle.roc_views.proofs.ReadsFit.{IsReadAt, MessageFits, ViewFits, ReadsFit, AllFit, all_of_transactions, sent_fit, round_fits, served_fits, message_fits, tick_fits}
 use Rattle.roc_views.proofs.Runs.{beside, grows}
 use Rattle.roc_views.proofs.ServerSends as server_sends
-use Rattle.roc_views.proofs.Steps.{starts_kept}
+use Rattle.roc_views.proofs.AsideSteps.{starts_kept}
 use Rattle.roc_views.proofs.ViewMeans.{TellsCalls, is_view_id}
 use Rattle.roc_views.proofs.ViewsStay.{get-set_here, get-set_cases}
 use Rattle.roc_views.proofs.ViewWitness.{calls_tell_views}
+use Rattle.roc_views.proofs.Stops.{by_losing, Loses, less}
+use Rattle.roc_protocol.specs.Happens.{IsSentTo, ran_at}
+use Rattle.roc_step.specs.Reads.{AnswersReads, ReadStep}
 
 module _ (plan : Plan) (calls : TxnId → whole.Call) where
   -- each server has its number
@@ -172,6 +175,35 @@ module _ (plan : Plan) (calls : TxnId → whole.Call) where
           kept = o.kept;
           views = o.views;
         })
+    step_fits accepted sounds (Some (Stop shard during)) u tells numbers x =
+        by_losing plan w shard.0 during u x (ReadsFit plan calls) o (λ k m sent. record { messages = o.messages; kept = o.kept; views = o.views }) take lose again
+      where
+        take : (k : ℕ) (m : Envelope) (s : ServerState) (v : Viewing) (r : ServerStep) (q : ReadStep) → IsSentTo w.sent k shard.0 m → slice_get w.servers shard.0 ≡ Some s → slice_get w.viewing shard.0 ≡ Some v → server.Handles plan s m.msg r
+            → AnswersReads plan v m.msg r q → u.world.servers ≡ slice_set w.servers shard.0 r.state → u.ran ≡ map (ran_at shard.0) r.ran → ReadsFit plan calls (at_server (mark_delivered w k) shard.0 r q)
+        take k m s v r q sent there keeps handles answers servers ran =
+            serves_fit accepted k m (has_at w.sent _ m sent.there) shard.0 sent.to (served (mark_delivered w k) shard.0 r q) (subst (λ l. (n : ℕ) (s : ServerState) → slice_get l n ≡ Some s → s.shard.0 ≡ n) servers numbers)
+            (record { state = s; there = there; viewing = v; keeps = keeps; step = r; handles = handles; reads = q; answers = answers; is = refl })
+
+        lose : (u : World) (sent : List Envelope) (undelivered : List ℕ) (viewing : List Viewing) → Loses u sent viewing → ReadsFit plan calls u → ReadsFit plan calls (less u sent undelivered viewing)
+        lose u sent undelivered viewing l o =
+            record {
+              messages = λ m h. o.messages m (l.sent m h);
+              kept = λ j z at q h. (let y = l.viewing j z at in o.kept j y.0 y.1 q (y.3 q h));
+              views = o.views;
+            }
+
+        again : (w : World) (s : ServerState) (v : Viewing) → ReadsFit plan calls w → slice_get w.servers shard.0 ≡ Some s → slice_get w.viewing shard.0 ≡ Some v
+            → ReadsFit plan calls (at_server w shard.0 (answered s (server.tick_sends s)) (record { viewing = v; sends = [] }))
+        again w s v o there keeps =
+            let ours = all_of_transactions plan calls (server.tick_sends s) (server_sends.tick_of_transactions plan s) in
+            record {
+              messages = more_messages w (Server (record { 0 = shard.0 })) (server.tick_sends s ++ []) o.messages (both_fit (server.tick_sends s) [] ours (λ out h. absurd h));
+              kept = λ j z at q h. elim (get-set_cases w.viewing shard.0 j v v z keeps at) [
+                | inl e ↦ o.kept j z (subst (λ j. slice_get w.viewing j ≡ Some z) e.0 (keeps ∙ ap Some (sym e.1))) q h
+                | inr e ↦ o.kept j z e.1 q h
+              ];
+              views = o.views;
+            }
 
   module _ (b : Beginning) (coords : ℕ) (accepted : IsAccepted plan) where
     begun_fits : ReadsFit plan calls (begun_world plan b coords)

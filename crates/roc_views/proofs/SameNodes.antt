@@ -1,5 +1,5 @@
 -- An event adds no node
-use Rattle.std.proofs.Common.{◌≡◌, ◌∙◌, ℕ, ◌-◌, List, Some, None, Result, Ok, Err, length, ap}
+use Rattle.std.proofs.Common.{◌≡◌, ◌∙◌, ℕ, List, Some, None, Result, Ok, Err, length, ap}
 use Rattle.std.proofs.lemmas.List.{length-set}
 use Rattle.std.proofs.lemmas.List.FromFn.{length-map-range_with_len}
 use Rattle.roc_base.specs.declared.id.TxnId.{TxnId}
@@ -14,10 +14,11 @@ use Rattle.roc_coord.specs.Step.{after_message}
 use Rattle.roc_coord.specs.Submit.{after_submit}
 use Rattle.roc_protocol.specs.Beginnings as protocol
 use Rattle.roc_protocol.specs.declared.event.Event.{Event}
-use Rattle.roc_protocol.specs.declared.event.Event.TheVariants.{Submit, Deliver, Tick}
+use Rattle.roc_protocol.specs.declared.event.Event.TheVariants.{Submit, Deliver, Tick, Stop}
 use Rattle.roc_views.specs.World.{World, Beginning, mark_delivered}
 use Rattle.roc_views.specs.Happens.{Outcome, Submits, IsReceived, Happens}
 use Rattle.roc_views.specs.Run.{Stepped, IsRunFrom, at_beginning, steps_on}
+use Rattle.roc_views.proofs.Stops.{stop_keeps}
 
 -- an event adds no coordinator
 pub same_count : (plan : Plan) (w : World) (e : Event) (o : Outcome) → Happens plan w e o → length o.world.coords ≡ length w.coords
@@ -37,6 +38,7 @@ same_count plan w (Deliver k) o (m, some, there, h) = go m.to h
     go (Coord n) (s, at, e) = ap (λ (o : Outcome). length o.world.coords) e ∙ length-set w.coords n (after_message plan s m.msg).state
 same_count plan w (Tick (Server shard)) o (s, v, there, keeps, e) = ap (λ (o : Outcome). length o.world.coords) e
 same_count plan w (Tick (Coord n)) o (s, there, e) = ap (λ (o : Outcome). length o.world.coords) e
+same_count plan w (Stop shard during) o x = ap length (stop_keeps plan w shard.0 during o x).1
 
 -- so there are as many as at the beginning
 pub run_count : (plan : Plan) (b : Beginning) (coords : ℕ) (steps : List Stepped) (w : World) → IsRunFrom plan b coords steps w → length w.coords ≡ coords

@@ -1,5 +1,6 @@
 -- A run of the smallest plan in which a transaction is answered. States are written as changes of the first ones, and each step computes
-use Rattle.std.proofs.Common.{pos, List, [], ◌∷◌, Some, None, refl, arith}
+use Rattle.std.proofs.Common.{◌≡◌, ℕ, zero, suc, pos, List, [], ◌∷◌, Option, Some, None, map, refl, sym, subst, arith}
+use Rattle.std.specs.Prelude.{slice_get}
 use Rattle.roc_base.specs.declared.id.TxnId.{TxnId}
 use Rattle.roc_base.specs.declared.node.Shard.{Shard}
 use Rattle.roc_base.specs.declared.node.Node.TheVariants.{Server, Coord}
@@ -16,15 +17,18 @@ use Rattle.roc_coord.specs.declared.transaction.Transaction.{Transaction}
 use Rattle.roc_coord.specs.State.{CoordState}
 use Rattle.roc_coord.specs.Starts.{shards_below}
 use Rattle.roc_audit.specs.declared.entry.Entry.TheVariants.{Submitted, Answered}
+use Rattle.roc_protocol.specs.declared.event.Event.{Event}
 use Rattle.roc_protocol.specs.declared.event.Event.TheVariants.{Submit, Deliver}
 use Rattle.roc_protocol.specs.declared.event.Seen.TheVariants as seen
 use Rattle.roc_protocol.specs.Beginnings as protocol
+use Rattle.roc_protocol.specs.Quiet.{Counts}
 use Rattle.roc_protocol.specs.Happens.{ran_at}
 use Rattle.roc_law_plans.specs.SmallPlans.{smallest}
 use Rattle.roc_views.specs.World.{World, first_world}
 use Rattle.roc_views.specs.Happens.{undecided, Happens}
 use Rattle.roc_views.specs.Run.{Stepped, IsRun, at_beginning, steps_on}
 use Rattle.roc_views.specs.Quiet.{IsQuiet}
+use Rattle.roc_views.proofs.WithoutStops.{counts_at}
 use Rattle.roc_views.proofs.Alone.{decided_of_none, decided_alone, led_to_none, new_of_none, new_alone}
 
 abbrev shard : Shard
@@ -180,6 +184,20 @@ run =
     let four = steps_on (Some (Deliver 3)) _ three runs in
     (_, steps_on (Some (Deliver 4)) _ four answers)
 
--- each message was delivered
+-- each message was delivered, and no server stopped
+abbrev its_events : List (Option Event)
+its_events = Some (Submit 0 0 []) ∷ Some (Deliver 1) ∷ Some (Deliver 2) ∷ Some (Deliver 3) ∷ Some (Deliver 4) ∷ []
+
+events_are : map (λ (s : Stepped). s.event) run.0 ≡ its_events
+unfolding run
+events_are = refl
+
+all_count : (k : ℕ) (m : Envelope) → slice_get answered_world.sent k ≡ Some m → Counts its_events answered_world.sent (suc k)
+all_count zero m e = counts_at its_events answered_world.sent 1 1 refl refl
+all_count (suc zero) m e = counts_at its_events answered_world.sent 2 2 refl refl
+all_count (suc (suc zero)) m e = counts_at its_events answered_world.sent 3 3 refl refl
+all_count (suc (suc (suc zero))) m e = counts_at its_events answered_world.sent 4 4 refl refl
+all_count (suc (suc (suc (suc k)))) m e = absurd (cc)
+
 pub quiet : IsQuiet smallest run.0 answered_world id
-quiet = record { each = λ k m u h e r. λ n. n }
+quiet = record { each = λ k m u h e r. subst (λ events. Counts events answered_world.sent (suc k)) (sym events_are) (all_count k m h) }

@@ -6,9 +6,9 @@ use Rattle.roc_sequence.proofs.Members.{same_there}
 use Rattle.roc_base.specs.declared.id.TxnId.{TxnId}
 use Rattle.roc_base.specs.declared.node.Shard.{Shard}
 use Rattle.roc_msg.specs.declared.msg.Envelope.{Envelope}
-use Rattle.roc_protocol.specs.declared.event.Event.TheVariants.{Deliver}
-use Rattle.roc_protocol.specs.Forgotten.{IsTakenAt, IsFirstTaken, IsLastTaken}
+use Rattle.roc_protocol.specs.Forgotten.{Brings, IsTakenAt, IsFirstTaken, IsLastTaken}
 use Rattle.roc_protocol.specs.Run.{Stepped}
+use Rattle.roc_protocol.proofs.FirstTaken.{brings_one}
 
 -- what a server took in the one it took in the other
 pub record TakesAlike (x y : Stepped) : Type 0 where
@@ -24,17 +24,14 @@ none_taken x y e f =
     }
 
 -- one message came, and as much was taken by it
-came_there : (x y : Stepped) (k j : ℕ) (m : Envelope) → x.event ≡ Some (Deliver k) → y.event ≡ Some (Deliver j)
+came_there : (x y : Stepped) (k j : ℕ) (m : Envelope) → Brings x.event k → Brings y.event j
     → slice_get x.outcome.world.sent (k - 1) ≡ Some m → slice_get y.outcome.world.sent (j - 1) ≡ Some m → x.outcome.components ≡ y.outcome.components
     → (shard : Shard) (c : List TxnId) → IsTakenAt x shard c → IsTakenAt y shard c
 came_there x y k j m e f at there same shard c t =
-    let one : m ≡ t.message = same_there x.outcome.world.sent (k - 1) m t.message at (subst (λ i. slice_get x.outcome.world.sent (i - 1) ≡ Some t.message) (sym (number (sym e ∙ t.delivers))) t.is) in
-    record { k = j; delivers = f; message = m; is = there; to = ap (λ (m : Envelope). m.to) one ∙ t.to; has = subst (Has c) same t.has }
-  where
-    number : Some (Deliver k) ≡ Some (Deliver t.k) → k ≡ t.k
-    number e = cc
+    let one : m ≡ t.message = same_there x.outcome.world.sent (k - 1) m t.message at (subst (λ i. slice_get x.outcome.world.sent (i - 1) ≡ Some t.message) (sym (brings_one x.event k t.k e t.brings)) t.is) in
+    record { k = j; brings = f; message = m; is = there; to = ap (λ (m : Envelope). m.to) one ∙ t.to; has = subst (Has c) same t.has }
 
-pub came_alike : (x y : Stepped) (k j : ℕ) (m : Envelope) → x.event ≡ Some (Deliver k) → y.event ≡ Some (Deliver j)
+pub came_alike : (x y : Stepped) (k j : ℕ) (m : Envelope) → Brings x.event k → Brings y.event j
     → slice_get x.outcome.world.sent (k - 1) ≡ Some m → slice_get y.outcome.world.sent (j - 1) ≡ Some m → x.outcome.components ≡ y.outcome.components → TakesAlike x y
 came_alike x y k j m e f at there same = record { there = came_there x y k j m e f at there same; back = came_there y x j k m f e there at (sym same) }
 

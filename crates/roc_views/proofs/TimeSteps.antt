@@ -39,7 +39,7 @@ use Rattle.roc_audit.specs.Order.{noted, noted_one}
 use Rattle.roc_audit.specs.Woven.{Look}
 use Rattle.roc_audit.proofs.Histories.{submitted_front}
 use Rattle.roc_protocol.specs.declared.event.Event.{Event}
-use Rattle.roc_protocol.specs.declared.event.Event.TheVariants.{Submit, Deliver, Tick}
+use Rattle.roc_protocol.specs.declared.event.Event.TheVariants.{Submit, Deliver, Tick, Stop}
 use Rattle.roc_protocol.specs.Happens.{answer_entries}
 use Rattle.roc_views.specs.World.{World, reads_for, first_look, looks_in, mark_delivered}
 use Rattle.roc_views.specs.Happens.{Outcome, IsSubmissionOf, IsReceived}
@@ -49,6 +49,7 @@ use Rattle.roc_views.proofs.Coordinators.{IsCoordSound}
 use Rattle.roc_views.proofs.CoordSteps.{for_transactions}
 use Rattle.roc_views.proofs.TickSends.{are_endeds}
 use Rattle.roc_views.proofs.InTime.{AddsInTime}
+use Rattle.roc_views.proofs.Stops.{stop_keeps, by_losing}
 
 -- what coordinators keep says of the history
 pub record IsKeptInTime (is_view : TxnId → Bool) (w : World) : Type 0 where
@@ -270,3 +271,8 @@ module _ (plan : Plan) (is_view : TxnId → Bool) (w : World) (kept : IsKeptInTi
           (λ t s. absurd (no_submission (after_message plan x.0 h.0.msg).answer t s)) (message_reads n x.0 x.1 (sounds n x.0 x.1) h.0.msg))
   adds_in_time sounds (Some (Tick (Server shard))) o h tells = subst (λ (o : Outcome). AddsInTime is_view w o.world) (sym h.4) (quiet _ refl refl [] (sym (append-nil w.order)))
   adds_in_time sounds (Some (Tick (Coord n))) o h tells = subst (λ (o : Outcome). AddsInTime is_view w o.world) (sym h.2) (quiet _ refl refl [] (sym (append-nil w.order)))
+  adds_in_time sounds (Some (Stop shard during)) o x tells =
+      let k = stop_keeps plan w shard.0 during o x in
+      let g = by_losing plan w shard.0 during o x (λ v. (rest : List TxnId) × (v.order ≡ w.order ++ rest)) ([], sym (append-nil w.order)) (λ k m sent. ([], sym (append-nil w.order)))
+      (λ k m s v r q sent there keeps handles answers servers ran. let g = noted_grows w.order r.decided in (g.0, g.1)) (λ u sent undelivered viewing l p. p) (λ v s z p there keeps. p) in
+      quiet o.world k.0 k.2 g.0 g.1

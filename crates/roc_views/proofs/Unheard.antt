@@ -12,8 +12,8 @@ use Rattle.roc_msg.specs.declared.msg.Envelope.{Envelope}
 use Rattle.roc_msg.specs.declared.outbox.Outgoing.{Outgoing}
 use Rattle.roc_plan.specs.Groups.{Plan, is_view_of}
 use Rattle.roc_step.specs.Below.{is_ended}
-use Rattle.roc_step.specs.Reads.{ReadStep}
-use Rattle.roc_step.specs.State.{answered, ServerState, ServerStep}
+use Rattle.roc_step.specs.Reads.{AnswersReads, ReadStep}
+use Rattle.roc_step.specs.State.{answered, ServerState, ServerStep, Viewing}
 use Rattle.roc_step.specs.Step as server
 use Rattle.roc_readonly.specs.Round.{first_round}
 use Rattle.roc_coord.specs.State.{CoordState}
@@ -24,7 +24,7 @@ use Rattle.roc_audit.specs.declared.entry.Entry.{Entry}
 use Rattle.roc_protocol.specs.Beginnings as protocol
 use Rattle.roc_protocol.specs.Beginnings.{IsBeginning}
 use Rattle.roc_protocol.specs.declared.event.Event.{Event}
-use Rattle.roc_protocol.specs.declared.event.Event.TheVariants.{Submit, Deliver, Tick}
+use Rattle.roc_protocol.specs.declared.event.Event.TheVariants.{Submit, Deliver, Tick, Stop}
 use Rattle.roc_protocol.specs.Happens.{answer_entries}
 use Rattle.roc_protocol.specs.World.{sent_by}
 use Rattle.roc_protocol.proofs.Firsts.{found_at}
@@ -38,6 +38,7 @@ use Rattle.roc_views.proofs.KeptReads.{told_is}
 use Rattle.roc_views.proofs.Numbered.{IsNumbered, numbered}
 use Rattle.roc_views.proofs.SameNodes.{run_count}
 use Rattle.roc_views.proofs.ServerMarks.{IsAbove, KeepsMarks, keeps_marks, tick_marks}
+use Rattle.roc_views.proofs.Stops.{Loses, less, by_losing}
 use Rattle.roc_views.proofs.ViewsStay.{get-set_cases}
 
 module _ (t : TxnId) where
@@ -76,6 +77,16 @@ module _ (t : TxnId) where
         heard = o.heard;
       }
 
+  ticked : (plan : Plan) (w : World) → IsUnheard w → (n : ℕ) (s : ServerState) (v : Viewing) → slice_get w.servers n ≡ Some s
+      → IsUnheard (at_server w n (answered s (server.tick_sends s)) (record { viewing = v; sends = [] }))
+  ticked plan w o n s v there =
+      by_server w o n s (answered s (server.tick_sends s)) (record { viewing = v; sends = [] }) there (o.heard n s there)
+      (λ out h. elim (has_append out (server.tick_sends s) [] h) [ inl j ↦ tick_marks plan s out j t | inr j ↦ absurd j ])
+
+  -- less is told where messages are lost
+  lost : (w : World) (sent : List Envelope) (undelivered : List ℕ) (viewing : List Viewing) → Loses w sent viewing → IsUnheard w → IsUnheard (less w sent undelivered viewing)
+  lost w sent undelivered viewing l o = record { away = o.away; told = λ m h. o.told m (l.sent m h); heard = o.heard }
+
   module _ (plan : Plan) (w : World) (o : IsUnheard w) (numbers : IsNumbered w) where
     come : (k : ℕ) → IsUnheard (mark_delivered w k)
     come k = record { away = o.away; told = o.told; heard = o.heard }
@@ -84,15 +95,19 @@ module _ (t : TxnId) where
     another : (n : ℕ) (s : CoordState) → slice_get w.coords n ≡ Some s → t.coord ≢ n
     another n s there e = let l = slice_get_within w.coords n s there in let a = o.away in omega (arith, e, l, a)
 
+    -- a message is taken
+    takes : (k : ℕ) (m : Envelope) → Has m w.sent → (n : ℕ) (s : ServerState) (v : Viewing) (r : ServerStep) (q : ReadStep) → slice_get w.servers n ≡ Some s → server.Handles plan s m.msg r → AnswersReads plan v m.msg r q
+        → IsUnheard (at_server (mark_delivered w k) n r q)
+    takes k m has n s v r q there handles answers =
+        let marks = subst (KeepsMarks s m.msg) (sym handles.is) (keeps_marks plan s handles.findings m.msg) in
+        by_server (mark_delivered w k) (come k) n s r q there (λ h. elim (marks.ended t h) [ inl old ↦ o.heard n s there old | inr above ↦ o.told m has above ])
+        (λ out h above. elim (has_append out r.sends q.sends h) [
+          | inl j ↦ o.heard n s there (marks.told out j t above)
+          | inr j ↦ (let p = told_is plan v m.msg r q answers out j in subst (λ (out : Outgoing). IsAbove out.msg t) p.2 above)
+        ])
+
     served : (k : ℕ) (m : Envelope) → Has m w.sent → (n : ℕ) (u : Outcome) → IsServed plan (mark_delivered w k) m.msg n u → IsUnheard u.world
-    served k m has n u x =
-        let marks = subst (KeepsMarks x.state m.msg) (sym x.handles.is) (keeps_marks plan x.state x.handles.findings m.msg) in
-        subst (λ (u : Outcome). IsUnheard u.world) (sym x.is)
-        (by_server (mark_delivered w k) (come k) n x.state x.step x.reads x.there (λ h. elim (marks.ended t h) [ inl old ↦ o.heard n x.state x.there old | inr above ↦ o.told m has above ])
-        (λ out h above. elim (has_append out x.step.sends x.reads.sends h) [
-          | inl j ↦ o.heard n x.state x.there (marks.told out j t above)
-          | inr j ↦ (let p = told_is plan x.viewing m.msg x.step x.reads x.answers out j in subst (λ (out : Outgoing). IsAbove out.msg t) p.2 above)
-        ]))
+    served k m has n u x = subst (λ (u : Outcome). IsUnheard u.world) (sym x.is) (takes k m has n x.state x.viewing x.step x.reads x.there x.handles x.answers)
 
     received : (k : ℕ) (m : Envelope) → Has m w.sent → (to : Node) (u : Outcome) → IsReceived plan (mark_delivered w k) m.msg to u → IsUnheard u.world
     received k m has (Server shard) u x = served k m has shard.0 u x
@@ -124,10 +139,7 @@ module _ (t : TxnId) where
     unheard_on None u h = subst (λ (u : Outcome). IsUnheard u.world) (sym h) o
     unheard_on (Some (Submit n proc args)) u (s, there, h) = submits n s proc args u h
     unheard_on (Some (Deliver k)) u (m, some, stands, h) = received k m (has_at w.sent (k - 1) m stands) m.to u h
-    unheard_on (Some (Tick (Server shard))) u (s, v, there, keeps, is) =
-        subst (λ (u : Outcome). IsUnheard u.world) (sym is)
-        (by_server w o shard.0 s (answered s (server.tick_sends s)) (record { viewing = v; sends = [] }) there (o.heard shard.0 s there)
-        (λ out h. elim (has_append out (server.tick_sends s) [] h) [ inl j ↦ tick_marks plan s out j t | inr j ↦ absurd j ]))
+    unheard_on (Some (Tick (Server shard))) u (s, v, there, keeps, is) = subst (λ (u : Outcome). IsUnheard u.world) (sym is) (ticked plan w o shard.0 s v there)
     unheard_on (Some (Tick (Coord n))) u (s, there, is) =
         subst (λ (u : Outcome). IsUnheard u.world) (sym is) (record {
           away = o.away;
@@ -138,6 +150,9 @@ module _ (t : TxnId) where
           ];
           heard = o.heard;
         })
+    unheard_on (Some (Stop shard during)) u x =
+        by_losing plan w shard.0 during u x IsUnheard o (λ k m sent. come k)
+        (λ k m s v r q sent there keeps handles answers servers ran. takes k m (has_at w.sent (k - 1) m sent.there) shard.0 s v r q there handles answers) lost (λ v s z p there keeps. ticked plan v p shard.0 s z there)
 
   -- ---- runs
 

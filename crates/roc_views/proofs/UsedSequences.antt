@@ -25,7 +25,7 @@ use Rattle.roc_audit.specs.History.{WasSubmitted}
 use Rattle.roc_audit.proofs.Histories.{submitted_front}
 use Rattle.roc_protocol.specs.Beginnings as protocol
 use Rattle.roc_protocol.specs.declared.event.Event.{Event}
-use Rattle.roc_protocol.specs.declared.event.Event.TheVariants.{Submit, Deliver, Tick}
+use Rattle.roc_protocol.specs.declared.event.Event.TheVariants.{Submit, Deliver, Tick, Stop}
 use Rattle.roc_protocol.specs.declared.event.Seen.TheVariants as seen
 use Rattle.roc_protocol.specs.Happens.{answer_entries}
 use Rattle.roc_protocol.specs.Unanswered.{submitted_at, unanswered_at}
@@ -46,6 +46,7 @@ use Rattle.roc_views.proofs.AnsweringRuns.{next_is_new, told_in_runs}
 use Rattle.roc_views.proofs.Coordinators.{IsCoordSound}
 use Rattle.roc_views.proofs.Numbered.{IsNumbered, numbered}
 use Rattle.roc_views.proofs.Runs.{beside, grows}
+use Rattle.roc_views.proofs.Stops.{stop_keeps}
 use Rattle.roc_views.proofs.Steps.{tells_before}
 
 abbrev pub left_at : CoordState → List TxnId
@@ -252,6 +253,7 @@ module _ (nexts : ℕ → ℕ) (plan : Plan) (is_view : TxnId → Bool) (w : Wor
           (of_unanswered plan is_view s (sounds n s at) (o.views n s at) m.msg))
   step_used (Some (Tick (Server shard))) u (s, z, there, keeps, e) = same_used nexts w u.world (ap (λ (u : Outcome). u.world.coords) e) (ap (λ (u : Outcome). u.world.history) e) k
   step_used (Some (Tick (Coord n))) u (s, there, e) = same_used nexts w u.world (ap (λ (u : Outcome). u.world.coords) e) (ap (λ (u : Outcome). u.world.history) e) k
+  step_used (Some (Stop shard during)) u x = let z = stop_keeps plan w shard.0 during u x in same_used nexts w u.world z.1 z.0 k
 
 -- ---- runs
 

@@ -24,7 +24,9 @@ use Rattle.roc_protocol.specs.Inner.Given.{LogLaws, StoreLaws}
 use Rattle.roc_protocol.specs.World as transactions
 use Rattle.roc_protocol.proofs.Means.{entry_run}
 use Rattle.roc_protocol.proofs.Firsts.{found_at}
-use Rattle.roc_protocol.proofs.Worlds.{submissions_from, Agrees, IsLogged, step_logged, ordered_submitted}
+use Rattle.roc_protocol.proofs.AcceptedSubmissions.{submissions_from}
+use Rattle.roc_protocol.proofs.Logged.{Agrees, IsLogged, ordered_submitted}
+use Rattle.roc_protocol.proofs.Worlds.{step_logged}
 use Rattle.roc_protocol.proofs.Onward.{agrees_before}
 use Rattle.roc_protocol.proofs.Witness.{begun_logged}
 use Rattle.roc_views.specs.World.{World, Beginning, begun_world}

@@ -1,7 +1,7 @@
 -- In every world what is kept for views says of the log what it has to
 use Rattle.std.proofs.Common.{◌≡◌, ◌≢◌, ◌∙◌, inl, inr, ℕ, ℤ, ◌-◌, ◌<◌, ◌==◌, Bool, true, false, not, cond, List, [], ◌∷◌, ◌++◌, Option, Some, None, map, length, refl, sym, ap, subst, arith, append-nil, is_some}
 use Rattle.std.proofs.lemmas.Bool.{false≢true, eqb-true}
-use Rattle.std.specs.Prelude.{slice_get, if◌then◌else◌}
+use Rattle.std.specs.Prelude.{slice_get, if◌then◌else◌, slice_set}
 use Rattle.roc_sequence.specs.Lists.{Has}
 use Rattle.roc_sequence.proofs.Members.{has_right, has_one, has_at, has_map, from_has_map, from_has_filter}
 use Rattle.roc_sequence.proofs.Found.{found_has}
@@ -23,7 +23,7 @@ use Rattle.roc_law_log.specs.Steps.{LogSteps, no_steps}
 use Rattle.roc_law_log.specs.Invariants.{LogInvariants, LogGrows}
 use Rattle.roc_law_log.proofs.Following.{AreFound}
 use Rattle.roc_step.specs.State.{answered, ServerState, ServerStep, Viewing}
-use Rattle.roc_step.specs.Reads.{is_taken}
+use Rattle.roc_step.specs.Reads.{is_taken, AnswersReads, ReadStep}
 use Rattle.roc_step.specs.declared.started.StartedGroup.{StartedGroup}
 use Rattle.roc_step.specs.Step as server
 use Rattle.roc_coord.specs.declared.handled.Handled.{Handled}
@@ -42,7 +42,7 @@ use Rattle.roc_audit.specs.Woven.{without_views, entry_id}
 use Rattle.roc_protocol.specs.PlanAssumptions.{IsSchemeOf}
 use Rattle.roc_protocol.specs.Beginnings as protocol
 use Rattle.roc_protocol.specs.declared.event.Event.{Event}
-use Rattle.roc_protocol.specs.declared.event.Event.TheVariants.{Submit, Deliver, Tick}
+use Rattle.roc_protocol.specs.declared.event.Event.TheVariants.{Submit, Deliver, Tick, Stop}
 use Rattle.roc_protocol.specs.Happens.{ran_at, answer_entries}
 use Rattle.roc_protocol.specs.World as transactions
 use Rattle.roc_protocol.specs.World.{sent_by}
@@ -55,7 +55,7 @@ use Rattle.roc_coord.specs.Submit.{next_id, new_transaction, accepted, accepted_
 use Rattle.roc_msg.specs.declared.reason.Reason.{Reason}
 use Rattle.roc_msg.specs.declared.reason.Reason.TheVariants.{Foreign, Stale, Unfit}
 use Rattle.roc_readonly.specs.Round.{first_round}
-use Rattle.roc_views.specs.Happens.{Outcome, IsSubmissionOf, undecided, served, coordinated, IsServed, IsReceived}
+use Rattle.roc_views.specs.Happens.{Outcome, IsSubmissionOf, undecided, served, coordinated, IsServed, IsReceived, StopsIn, at_rest, unrecorded, recorded, IsStopped}
 use Rattle.roc_views.specs.Run.{Transition}
 use Rattle.roc_views.specs.Beside.{is_of_view, IsBeside}
 use Rattle.roc_views.proofs.Sent.{filter_append, AreOfTransactions}
@@ -64,7 +64,7 @@ use Rattle.roc_views.proofs.IgnoredRuns.{ignored_runs}
 use Rattle.roc_views.proofs.Coordinators.{IsCoordSound}
 use Rattle.roc_views.proofs.CoordSteps.{IsForTransactions, for_transactions, are_marks}
 use Rattle.roc_views.proofs.Besides.{set_there}
-use Rattle.roc_views.proofs.Steps.{starts_kept}
+use Rattle.roc_views.proofs.AsideSteps.{starts_kept}
 use Rattle.roc_views.proofs.Readings.{ViewLaws, AreSteady}
 use Rattle.roc_views.proofs.ViewMeans.{TellsCalls, proc_of, args_of, is_view_id, ViewsMean}
 use Rattle.roc_views.proofs.ViewsStay.{get-set_here, goes_on}
@@ -73,6 +73,11 @@ use Rattle.roc_views.proofs.RoundReads.{again_are, no_looks}
 use Rattle.roc_views.proofs.ViewRounds.{view_submitted, view_ticked}
 use Rattle.roc_views.proofs.ReadOksTaken.{readok_waits, readok_goes_on, readok_ends}
 use Rattle.roc_views.proofs.BesideRuns.{GoesOnBeside, goes_on_still, goes_on_at}
+use Rattle.roc_step.specs.Restarts.{without_reads, cut_short, cut_reads}
+use Rattle.roc_protocol.specs.declared.event.Kept.{Kept}
+use Rattle.roc_audit.specs.Order.{noted}
+use Rattle.roc_views.proofs.Stops.{rest_is, rest_loses, cut_loses, tick_is_sends, starts_there, stop_keeps}
+use Rattle.roc_views.proofs.Losing.{loses_means}
 
 module _ (plan : Plan) (calls : TxnId → whole.Call) (asked : TxnId → whole.Call) (S : Scheme) (start : protocol.Beginning) (before : ℕ → Counts) where
   abbrev Mean : World → Log → Type 0
@@ -187,20 +192,22 @@ module _ (plan : Plan) (calls : TxnId → whole.Call) (asked : TxnId → whole.C
     runs_told n [] = refl
     runs_told n (e ∷ es) = ap (λ l. entry_run e ∷ l) (runs_told n es)
 
+    -- whatever t is beside, with the order and the servers then
+    taken_means : (k : ℕ) (e : Envelope) → Has e w.sent → (n : ℕ) → e.to ≡ Server (record { 0 = n }) → (s : ServerState) (z : Viewing) (r : ServerStep) (q : ReadStep) → slice_get w.servers n ≡ Some s → slice_get w.viewing n ≡ Some z → server.Handles plan s e.msg r
+        → AnswersReads plan z e.msg r q → (t : transactions.World) → t.servers ≡ slice_set w.servers n r.state → t.order ≡ noted w.order r.decided → GoesOnBeside plan calls asked S start before t log later (map (ran_at n) r.ran) → Mean (at_server (mark_delivered w k) n r q) later
+    taken_means k e has n to s z r q there keeps handles answers t servers order g =
+        let grown = g.grows.order in
+        views_served plan calls asked S start before is sound found laws (mark_delivered w k) log later (mean_come k) g.steps i g.reached g.grows n z keeps e has to r q answers
+        (subst (λ (r : ServerStep). AreOfTransactions r.sends) (sym handles.is) (server_sends.message_of_transactions plan s handles.findings e.msg))
+        (subst (λ (r : ServerStep). is_taken r.answer ≡ false → r.ran ≡ []) (sym handles.is) (ignored_runs plan s handles.findings e.msg))
+        (g.means.servers n r.state (subst (λ l. slice_get l n ≡ Some r.state) (sym servers) (get-set_here w.servers n s r.state there)))
+        (g.groups ∙ ap (λ l. log.past.ran ++ l) (runs_told n r.ran))
+        (λ d h. g.each (ran_at n d) (has_map (ran_at n) d r.ran h))
+        grown.0 (sym order ∙ (g.means.order ∙ (grown.1 ∙ ap (λ l. l ++ grown.0) (sym same_order))))
+
     pub server_takes : (k : ℕ) (e : Envelope) → Has e w.sent → (n : ℕ) → e.to ≡ Server (record { 0 = n }) → (o : Outcome) → IsServed plan (mark_delivered w k) e.msg n o → Holds_behind o
-    server_takes k e has n to o x = subst Holds_behind (sym x.is) behind
-      where
-        behind : Holds_behind (served (mark_delivered w k) n x.step x.reads)
-        behind t b g =
-            let r = x.step in
-            let grown = g.grows.order in
-            views_served plan calls asked S start before is sound found laws (mark_delivered w k) log later (mean_come k) g.steps i g.reached g.grows n x.viewing x.keeps e has to r x.reads x.answers
-            (subst (λ (r : ServerStep). AreOfTransactions r.sends) (sym x.handles.is) (server_sends.message_of_transactions plan x.state x.handles.findings e.msg))
-            (subst (λ (r : ServerStep). is_taken r.answer ≡ false → r.ran ≡ []) (sym x.handles.is) (ignored_runs plan x.state x.handles.findings e.msg))
-            (g.means.servers n r.state (subst (λ l. slice_get l n ≡ Some r.state) (sym b.servers) (get-set_here w.servers n x.state r.state x.there)))
-            (g.groups ∙ ap (λ l. log.past.ran ++ l) (runs_told n r.ran))
-            (λ d h. g.each (ran_at n d) (has_map (ran_at n) d r.ran h))
-            grown.0 (sym b.order ∙ (g.means.order ∙ (grown.1 ∙ ap (λ l. l ++ grown.0) (sym same_order))))
+    server_takes k e has n to o x =
+        subst Holds_behind (sym x.is) (λ t b g. taken_means k e has n to x.state x.viewing x.step x.reads x.there x.keeps x.handles x.answers t b.servers b.order g)
 
     -- ---- a message comes to a coordinator
 
@@ -323,6 +330,44 @@ module _ (plan : Plan) (calls : TxnId → whole.Call) (asked : TxnId → whole.C
     coord_ticks n s there t b g =
         view_ticked plan calls asked S start before w later (mean_now t b.history b.order g) (sym b.order ∙ g.means.order) g.reached n s there (tick_sends plan s) (again_are plan n s)
 
+    -- ---- a stop
+
+    -- behind the step that is cut short, by the later log
+    cut_means : (n : ℕ) (s : ServerState) (z : Viewing) → slice_get w.servers n ≡ Some s → slice_get w.viewing n ≡ Some z → (during : Option (ℕ × Kept)) (u : World) (step : ServerStep) (reads : ReadStep) → StopsIn plan w n s z during u step reads
+        → (t : transactions.World) → t.servers ≡ (at_server u n step reads).servers → t.order ≡ (at_server u n step reads).order → t.history ≡ without_views is_view w.history → GoesOnBeside plan calls asked S start before t log later (map (ran_at n) step.ran)
+        → Mean (at_server u n step reads) later
+    cut_means n s z there keeps during u step reads at_rest t servers order history g =
+        subst (λ v. Mean v later) (sym (rest_is w n s z there))
+        (loses_means plan calls asked S start before w later w.sent w.undelivered (slice_set w.viewing n (without_reads z)) (rest_loses w n z keeps) (mean_now t history order g))
+    cut_means n s z there keeps during u step reads (unrecorded k m sent) t servers order history g =
+        subst (λ v. Mean v later) (sym (rest_is (mark_delivered w k) n s z there))
+        (loses_means plan calls asked S start before (mark_delivered w k) later w.sent (mark_delivered w k).undelivered (slice_set w.viewing n (without_reads z)) (rest_loses (mark_delivered w k) n z keeps) (mean_later k t history order g))
+    cut_means n s z there keeps during u step reads (recorded k many e r q sent handles answers) t servers order history g =
+        let v = at_server (mark_delivered w k) n (cut_short many r) (cut_reads many r q) in
+        loses_means plan calls asked S start before (at_server (mark_delivered w k) n r q) later v.sent v.undelivered v.viewing (cut_loses (mark_delivered w k) n many r q z keeps)
+        (taken_means k e (has_at w.sent (k - 1) e sent.there) n sent.to s z r q there keeps handles answers t servers order g)
+
+    -- and behind the tick
+    stop_means : (n : ℕ) (during : Option (ℕ × Kept)) (o : Outcome) → IsStopped plan w n during o → Holds_behind o
+    stop_means n during o x t b g =
+        let v = at_server x.before n x.step x.reads in
+        let s = x.step.state in
+        let u = at_server v n (answered s (server.tick_sends s)) (record { viewing = x.reads.viewing; sends = [] }) in
+        let outs = server.tick_sends s ++ [] in
+        let behind = subst (λ (o : Outcome). IsBeside is_view o.world t) x.is b in
+        let on = subst (λ ran. GoesOnBeside plan calls asked S start before t log later ran) (ap (λ (o : Outcome). o.ran) x.is) g in
+        let here = starts_there plan w n during o x in
+        let mean = cut_means n x.state x.viewing x.there x.keeps during x.before x.step x.reads x.stops t behind.servers behind.order (b.history ∙ ap (without_views is_view) (stop_keeps plan w n during o x).0) on in
+        let rests : GoesOnBeside plan calls asked S start before t later later [] =
+        record { steps = no_steps; reached = g.reached; grows = grow later later g.reached no_steps; means = g.means; groups = sym (append-nil later.past.ran); each = λ r h. absurd h; ordered = g.ordered } in
+        subst (λ (o : Outcome). Mean o.world later) (sym x.is)
+        (subst (λ v. Mean v later) (tick_is_sends v n s x.reads.viewing (server.tick_sends s) here.0 here.1)
+        (goes_on_still plan calls asked S start before is sound found laws steady grow some_group v later later mean g.reached (sym behind.order ∙ g.means.order) u t behind.history behind.order rests (set_there v.viewing n x.reads.viewing here.1)
+        (map (sent_by (Server (record { 0 = n }))) outs) refl
+        (λ e h. let p = from_has_map (sent_by (Server (record { 0 = n }))) e outs h in
+        ap (λ (e : Envelope). is_of_view e.msg) p.2 ∙ server_sends.tick_of_transactions plan s p.0 (subst (λ l. Has p.0 l) (append-nil (server.tick_sends s)) p.1))
+        refl [] (sym (append-nil x.before.history)) (λ id reply v h. h) refl refl))
+
     -- ---- all of them
 
     pub views_step : (sounds : (n : ℕ) (s : CoordState) → slice_get w.coords n ≡ Some s → IsCoordSound is_view s) → (e : Option Event) (o : Outcome) → Transition plan w e o → TellsCalls calls o.world.history → Holds_behind o
@@ -338,3 +383,4 @@ module _ (plan : Plan) (calls : TxnId → whole.Call) (asked : TxnId → whole.C
         go (Coord n) f x = subst Holds_behind (sym x.2) (coord_takes k n x.0 x.1 (sounds n x.0 x.1) h.0 has)
     views_step sounds (Some (Tick (Server shard))) o h tells = subst Holds_behind (sym h.4) (server_ticks shard.0 h.0 h.1 h.2 h.3)
     views_step sounds (Some (Tick (Coord n))) o h tells = subst Holds_behind (sym h.2) (coord_ticks n h.0 h.1)
+    views_step sounds (Some (Stop shard during)) o x tells = λ t b g. stop_means shard.0 during o x t b g

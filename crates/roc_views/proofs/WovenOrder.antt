@@ -21,7 +21,8 @@ use Rattle.roc_audit.proofs.Histories.{call_of-is}
 use Rattle.roc_protocol.specs.PlanAssumptions.{IsSchemeOf, HasSchemesFrom}
 use Rattle.roc_protocol.specs.Inner.Given.{LogLaws, SerialLaws, StoreLaws}
 use Rattle.roc_protocol.proofs.Serial.{call_in, agrees, procedures, order_serial}
-use Rattle.roc_protocol.proofs.Worlds.{submissions_from, Agrees, ordered_submitted}
+use Rattle.roc_protocol.proofs.AcceptedSubmissions.{submissions_from}
+use Rattle.roc_protocol.proofs.Logged.{Agrees, ordered_submitted}
 use Rattle.roc_protocol.proofs.Submissions.{AreSubmissions}
 use Rattle.roc_protocol.proofs.Transactions.{HasTransaction}
 use Rattle.roc_views.specs.World.{World, Beginning}

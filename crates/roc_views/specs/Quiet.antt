@@ -1,5 +1,5 @@
 -- Transactions and views all of whose messages were delivered: docs/PROTOCOL.md, "Quiet transactions" and "Views"
-use Rattle.std.specs.Prelude.{◌≡◌, ℕ, ℤ, suc, true, List, Some, slice_get}
+use Rattle.std.specs.Prelude.{◌≡◌, ℕ, ℤ, suc, true, List, Some, map, slice_get}
 use Rattle.roc_sequence.specs.Lists.{Has}
 use Rattle.roc_base.specs.declared.id.TxnId.{TxnId}
 use Rattle.roc_depgraph.specs.Deps.{IsDecided}
@@ -7,7 +7,6 @@ use Rattle.roc_depgraph.specs.Reach.{ReachesOrIs}
 use Rattle.roc_msg.specs.declared.msg.Envelope.{Envelope}
 use Rattle.roc_msg.specs.Msg.{id_of}
 use Rattle.roc_plan.specs.Groups.{Plan, is_view_of}
-use Rattle.roc_step.specs.declared.kept_read.KeptRead.{KeptRead}
 use Rattle.roc_step.specs.declared.started.StartedGroup.{StartedGroup}
 use Rattle.roc_step.specs.Reads.{holds_up}
 use Rattle.roc_step.specs.State.{ServerState}
@@ -45,15 +44,11 @@ pub data PrecedesIn (plan : Plan) (w : World) (u t : TxnId) : Type 0 where
 abbrev pub WasDelivered : World → ℕ → Type 0
 WasDelivered w k = ¬ Has k w.undelivered
 
--- a delivery of message k counts: it was delivered at least once
-abbrev pub Counts : List Stepped → World → ℕ → Type 0
-Counts steps w k = WasDelivered w k
-
 -- of every message of t, or of one from which a chain of these leads to t, a delivery counts
 pub record AreDelivered (precedes : TxnId → TxnId → Type 0) (steps : List Stepped) (w : World) (t : TxnId) : Type 0 where
   pub each :
       (k : ℕ) (m : Envelope) (u : TxnId) → slice_get w.sent k ≡ Some m → id_of m.msg ≡ Some u → ReachesOrIs precedes u t
-      → Counts steps w (suc k)
+      → transactions.Counts (map (λ s. s.event) steps) w.sent (suc k)
 
 -- and of every message of an ancestor of it
 abbrev pub IsQuiet : Plan → List Stepped → World → TxnId → Type 0

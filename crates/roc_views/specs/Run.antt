@@ -2,10 +2,13 @@
 use Rattle.std.specs.Prelude.{◌≡◌, ℕ, ◌<◌, ◌≤◌, List, [], ◌∷◌, ◌++◌, Option, Some, None, length, map}
 use Rattle.roc_base.specs.declared.node.Node.{Node}
 use Rattle.roc_base.specs.declared.node.Node.TheVariants.{Server, Coord}
+use Rattle.roc_msg.specs.declared.msg.Envelope.{Envelope}
 use Rattle.roc_plan.specs.Groups.{Plan, procedure_of}
 use Rattle.roc_protocol.specs.declared.event.Event.{Event}
-use Rattle.roc_protocol.specs.declared.event.Event.TheVariants.{Submit, Deliver, Tick}
+use Rattle.roc_protocol.specs.declared.event.Event.TheVariants.{Submit, Deliver, Tick, Stop}
 use Rattle.roc_protocol.specs.declared.event.Seen.TheVariants as seen
+use Rattle.roc_protocol.specs.declared.event.Kept.{Kept}
+use Rattle.roc_protocol.specs.Happens.{IsSentTo}
 use Rattle.roc_views.specs.World.{World, Beginning, first_beginning, begun_world}
 use Rattle.roc_views.specs.Happens.{Outcome, undecided, Happens}
 
@@ -34,11 +37,17 @@ abbrev pub IsNodeOf : World → Node → Type 0
 IsNodeOf w (Server shard) = shard.0 < length w.servers
 IsNodeOf w (Coord number) = number < length w.coords
 
+-- the message at which a server stops, if any, was sent to it
+abbrev pub IsSentIn : World → (shard : ℕ) → Option (ℕ × Kept) → Type 0
+IsSentIn w shard None = Unit {0}
+IsSentIn w shard (Some (k, kept)) = (m : Envelope) × IsSentTo w.sent k shard m
+
 -- the event may happen in w: the coordinator and the procedure exist, and the count of arguments fits; or the message was sent; or the node is there
 abbrev pub IsEventOf : Plan → World → Event → Type 0
 IsEventOf plan w (Submit number proc args) = (number < length w.coords) × (proc < length plan.program.procedures) × (length args ≡ (procedure_of plan proc).arguments)
 IsEventOf plan w (Deliver k) = (0 < k) × (k ≤ length w.sent)
 IsEventOf plan w (Tick node) = IsNodeOf w node
+IsEventOf plan w (Stop shard during) = (shard.0 < length w.servers) × IsSentIn w shard.0 during
 
 -- each event of the list may happen in the world that it meets, to which those before it lead from the beginning
 pub record MayHappenFrom (plan : Plan) (b : Beginning) (coords : ℕ) (events : List (Option Event)) : Type 0 where

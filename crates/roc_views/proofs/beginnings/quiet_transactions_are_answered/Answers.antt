@@ -15,7 +15,7 @@ returns-clause-answered c plan b coords steps w accepted begins run t proc args 
     let there = has_filter (λ e. not (v (entry_id e))) (Submitted t proc args) w.history submitted (ap not (tells_them plan b coords steps w run t proc args submitted ∙ plain)) in
     let r = c.quiet_is_answered.ensures.answered plan b.of_transactions coords x.others x.world begins.of_transactions
     (c.accepted_plans_have_schemes_from_any_store.ensures plan b.of_transactions.store accepted) x.run
-    t proc args (subst (Has (Submitted t proc args)) (sym x.holds.beside.history) there) (quiet_beside v w x.world x.holds.beside plan steps x.others t quiet) in
+    t proc args (subst (Has (Submitted t proc args)) (sym x.holds.beside.history) there) (quiet_beside v w x.world x.holds.beside plan steps x.others x.counted t quiet) in
     (r.0, (from_has_filter (λ e. not (v (entry_id e))) (Answered t r.0) w.history (subst (Has (Answered t r.0)) x.holds.beside.history r.1)).0)
 
 pub returns-clause-decided : goal.returns-clause-decided
@@ -24,4 +24,4 @@ returns-clause-decided c plan b coords steps w accepted begins run t quiet shard
     let x = run_beside plan b coords steps w run in
     c.quiet_is_answered.ensures.decided plan b.of_transactions coords x.others x.world begins.of_transactions
     (c.accepted_plans_have_schemes_from_any_store.ensures plan b.of_transactions.store accepted) x.run
-    t (quiet_beside v w x.world x.holds.beside plan steps x.others t quiet) shard s (subst (λ l. slice_get l shard.0 ≡ Some s) (sym x.holds.beside.servers) there)
+    t (quiet_beside v w x.world x.holds.beside plan steps x.others x.counted t quiet) shard s (subst (λ l. slice_get l shard.0 ≡ Some s) (sym x.holds.beside.servers) there)

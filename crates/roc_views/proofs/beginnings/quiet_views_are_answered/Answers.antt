@@ -12,7 +12,8 @@ use Rattle.roc_views.proofs.beginnings.quiet_views_are_answered.Goals as goal
 pub returns : goal.returns
 returns c plan b coords steps w accepted begins run t proc args submitted viewed quiet more =
     let v = is_view plan b coords steps w run in
-    quiet_answered plan w (run_calm plan accepted some_group b begins.of_transactions coords v steps w run (tells_them plan b coords steps w run)) steps
+    let x = run_calm plan accepted some_group b begins.of_transactions coords v steps w run (tells_them plan b coords steps w run) in
+    quiet_answered plan w x.uncounted x.calm steps x.counts.counted
     (c.quiet_transactions_are_answered.ensures.decided plan b coords steps w accepted begins run)
     t quiet proc args submitted viewed more
   where

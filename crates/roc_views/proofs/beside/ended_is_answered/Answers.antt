@@ -17,7 +17,7 @@ returns-clause-told c plan b coords steps w accepted begins run m has coord mark
     let used = run_used plan b begins coords v steps w run tells in
     let k = ended_coord plan b coords steps w accepted run m has coord mark is in
     answered_late b.of_transactions.nexts w (told_in_runs plan b coords v steps w run tells) used (record { coord = coord; seq = seq }) k.0 k.1 late
-    (calm.told m has (record { coord = coord; seq = seq }) (subst (λ msg. IsAbove msg (record { coord = coord; seq = seq })) (sym is) (refl, below)))
+    (calm.calm.told m has (record { coord = coord; seq = seq }) (subst (λ msg. IsAbove msg (record { coord = coord; seq = seq })) (sym is) (refl, below)))
 
 pub returns-clause-heard : goal.returns-clause-heard
 returns-clause-heard c plan b coords steps w accepted begins run n s there t late ended =
@@ -26,6 +26,6 @@ returns-clause-heard c plan b coords steps w accepted begins run n s there t lat
     let calm = run_calm plan accepted (some_group plan accepted (c.views_are_apart.ensures.count plan accepted)) b begins.of_transactions coords v steps w run tells in
     let used = run_used plan b begins coords v steps w run tells in
     elim (slice_get_cases w.coords t.coord).1 [
-      | inl at ↦ answered_late b.of_transactions.nexts w (told_in_runs plan b coords v steps w run tells) used t at.0 at.2 late (calm.heard n s there t ended)
+      | inl at ↦ answered_late b.of_transactions.nexts w (told_in_runs plan b coords v steps w run tells) used t at.0 at.2 late (calm.calm.heard n s there t ended)
       | inr away ↦ absurd ((run_unheard t plan b begins.of_transactions coords late steps w run away.0).heard n s there ended)
     ]

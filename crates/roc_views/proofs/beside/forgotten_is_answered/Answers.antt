@@ -57,7 +57,7 @@ returns-clause-sent c plan b coords steps w accepted begins run m t mark has is 
           (let u : TxnId = record { coord = t.coord; seq = seq } in
           let above = subst (λ msg. IsAbove msg u) (sym is) (refl, below) in
           elim (slice_get_cases w.coords t.coord).1 [
-            | inl at ↦ answered_late b.of_transactions.nexts w (told_in_runs plan b coords v steps w run tells) (run_used plan b begins coords v steps w run tells) u at.0 at.2 late (calm.told m has u above)
+            | inl at ↦ answered_late b.of_transactions.nexts w (told_in_runs plan b coords v steps w run tells) (run_used plan b begins coords v steps w run tells) u at.0 at.2 late (calm.calm.told m has u above)
             | inr away ↦ absurd ((run_unheard u plan b begins.of_transactions coords late steps w run away.0).told m has above)
           ]),
     )
