@@ -19,6 +19,7 @@ FORMS = {word: re.compile(word + rest) for word, rest in {
     "deliver": f" ({NUMBER})",
     "none": "",
     "tick": f" ({NODE})",
+    "stop": f" (s{NUMBER})(?: ({NUMBER}) (none|{NUMBER}))?",
     "ignored": f" ({REASON})",
     "gone": "",
     "send": rf" ({NUMBER}) ([a-z]+) ({ID}) ({NODE}) ({NODE})((?: {EDGE})*)((?: \+{ID})*)",
@@ -60,6 +61,13 @@ class Event:
     @property
     def word(self) -> str:
         return self.words.split(" ")[0]
+
+    @property
+    def is_taken(self) -> bool:
+        """Whether a node took a submission or a message here; a server that stops without a record of it took none."""
+        if self.word == "stop":
+            return self.message is not None and not self.words.endswith(" none")
+        return self.word in ("submit", "deliver") and not self.untaken
 
 
 @dataclass
@@ -127,9 +135,20 @@ class Reader:
             event.node = event.message.receiver
         elif event.word == "tick":
             event.node = groups[0]
+        elif event.word == "stop":
+            event.node = groups[0]
+            if groups[1]:
+                self.take_stop(event, int(groups[1]))
         elif event.word != "none":
             event.node = "c" + groups[0].split(".")[0]
         self.report.events.append(event)
+
+    def take_stop(self, event: Event, number: int) -> None:
+        """A server stops at a message, which comes to it."""
+        self.ensure(0 < number <= len(self.report.messages), f"message {number} was not sent")
+        event.message = self.report.messages[number - 1]
+        self.ensure(event.message.receiver == event.node, f"message {number} does not go to {event.node}")
+        event.message.deliveries.append(event)
 
     def last(self) -> Event:
         self.ensure(bool(self.report.events), "no event stands before it")
@@ -148,7 +167,7 @@ class Reader:
         self.ensure(int(number) == len(self.report.messages) + 1, f"message {len(self.report.messages) + 1} is the next one")
         self.ensure(sender[0] + receiver[0] == route, f"a {kind} goes another way")
         self.ensure((may_have_edges or not edges) and (may_have_facts or not facts), f"a {kind} carries no such list")
-        self.ensure(event.word in ("submit", "deliver", "tick") and not event.untaken and not event.answer, "its event sends nothing here")
+        self.ensure(event.word in ("submit", "deliver", "tick", "stop") and not event.untaken and not event.answer, "its event sends nothing here")
         self.ensure(event.node == sender, f"{sender} sends, and {event.node} acts")
         message = Message(number, kind, named, receiver, edges.split(), facts.split(), event)
         event.sends.append(message)
@@ -216,7 +235,7 @@ def decisions(report: Report) -> dict[int, list[str]]:
     seen: set[tuple[str, str]] = set()
     found: dict[int, list[str]] = {}
     for event in report.events:
-        for message in event.sends if event.word == "deliver" else []:
+        for message in event.sends if event.word in ("deliver", "stop") else []:
             if message.kind == "commitok" and (event.node, message.transaction) not in seen:
                 seen.add((event.node, message.transaction))
                 found.setdefault(event.index, []).append(message.transaction)
@@ -254,4 +273,4 @@ def rounds(report: Report) -> dict[int, int]:
 
 def is_kept(event: Event) -> bool:
     """Whether a read came here that its server answers later."""
-    return event.message is not None and event.message.kind == "read" and not event.untaken and not event.sends
+    return event.word == "deliver" and event.message.kind == "read" and not event.untaken and not event.sends

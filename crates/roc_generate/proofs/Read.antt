@@ -10,7 +10,7 @@ use Rattle.roc_sched.specs.Lines.{lines_of}
 use Rattle.roc_sched.specs.Words.{words_of}
 use Rattle.roc_sched.specs.Numbers.{is_name}
 use Rattle.roc_sched.specs.Acts.{line_at}
-use Rattle.roc_sched.specs.Forms.{plain_forms}
+use Rattle.roc_generate.specs.Load.{forms_with}
 use Rattle.roc_sched.specs.Schedule.{item_of, numbered, IsSchedule}
 use Rattle.roc_generate.specs.Draws.{next_state, draw, state_after}
 use Rattle.roc_generate.specs.Drawn.{drawn_choices, drawn_call, drawn_calls, drawn_acts}
@@ -40,13 +40,13 @@ line_count (act ∷ acts) all =
     let others = line_count acts all.1 in
     omega (arith, first, others)
 
-module _ (shards : ℕ) where
+module _ (stops : Bool) (shards : ℕ) where
   abbrev item_at : ℕ × List ℕ → Option Line
-  item_at line = item_of (line_at plain_forms shards line.0 (words_of line.1))
+  item_at line = item_of (line_at (forms_with stops) shards line.0 (words_of line.1))
 
   first_item : (act : Act) (w : ActWords act) (number : ℕ) → item_at (number, spaced_words w.first w.others) ≡ Some (record { number = number; act = act })
   first_item act w number =
-      ap (λ words. item_of (line_at plain_forms shards number words)) (words_read w.first w.others w.first_part w.other_parts) ∙ ap item_of (w.read shards number)
+      ap (λ words. item_of (line_at (forms_with stops) shards number words)) (words_read w.first w.others w.first_part w.other_parts) ∙ ap item_of (w.read stops shards number)
 
   kept_line : (act : Act) (w : ActWords act) (number : ℕ) (lines : List (List ℕ)) → numbered number (spaced_words w.first w.others ∷ lines) ≡ (number, spaced_words w.first w.others) ∷ numbered (number + 1) lines
   kept_line act w number lines =
@@ -141,11 +141,11 @@ text_length (act ∷ acts) all =
     let sum = length-append (act_line act) (flat_map act_line acts) in
     omega (arith, one, others, sum)
 
-pub schedule_read : (seed shards txns : ℕ) → 0 < shards → shards ≤ 64 → txns ≤ 1000 → IsSchedule plain_forms shards (generated_schedule seed shards txns) (generated_lines seed shards txns)
+pub schedule_read : (seed shards txns : ℕ) → 0 < shards → shards ≤ 64 → txns ≤ 1000 → (stops : Bool) → IsSchedule (forms_with stops) shards (generated_schedule seed shards txns) (generated_lines seed shards txns)
 unfolding generated_schedule generated_lines
-schedule_read seed shards txns some few most =
+schedule_read seed shards txns some few most stops =
     let all = acts_drawn seed shards txns some few in
     let count = act_count seed shards txns in
     let size = text_length (drawn_acts seed shards txns) all in
     let lines = line_count (drawn_acts seed shards txns) all in
-    record { size = omega (arith, size, count, most); few_lines = omega (arith, lines, count, most); written = items_read shards 1 (drawn_acts seed shards txns) all }
+    record { size = omega (arith, size, count, most); few_lines = omega (arith, lines, count, most); written = items_read stops shards 1 (drawn_acts seed shards txns) all }

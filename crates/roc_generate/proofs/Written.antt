@@ -19,7 +19,7 @@ use Rattle.roc_sched.specs.declared.fault.What.TheVariants as what
 use Rattle.roc_sched.specs.Each.{each}
 use Rattle.roc_sched.specs.Words.{is_skipped}
 use Rattle.roc_sched.specs.Numbers.{is_decimal, number_up_to, integer_of, is_name}
-use Rattle.roc_sched.specs.Forms.{plain_forms}
+use Rattle.roc_generate.specs.Load.{forms_with}
 use Rattle.roc_sched.specs.Acts.{act_of, or_word, or_node, numbered_line, line_at}
 use Rattle.roc_generate.specs.ScheduleText.{act_line}
 use Rattle.roc_generate.proofs.Parts.{AllAbove, IsPlainWord, some_bytes, spaced_words}
@@ -110,16 +110,17 @@ pub record ActWords (act : Act) : Type 0 where
   pub first_part : IsPlainWord first
   pub other_parts : AllByRecursion IsPlainWord others
   pub kept : is_skipped (spaced_words first others) ≡ false
-  pub read : (shards number : ℕ) → line_at plain_forms shards number (first ∷ others) ≡ Ok (record { number = number; act = act })
+  pub read : (stops : Bool) (shards number : ℕ) → line_at (forms_with stops) shards number (first ∷ others) ≡ Ok (record { number = number; act = act })
   pub short : length (act_line act) ≤ 220
 
-any_read : (place : ℕ) → place < 2 ^ 32 → act_of plain_forms (codes "any" ∷ fmt.decimal place ∷ []) ≡ Some (Any place)
+any_read : (stops : Bool) (place : ℕ) → place < 2 ^ 32 → act_of (forms_with stops) (codes "any" ∷ fmt.decimal place ∷ []) ≡ Some (Any place)
 unfolding act_of
-any_read place small = ap (option_map Any) (number_read 4294967295 place (omega arith) (omega arith))
+any_read stops place small = ap (option_map Any) (number_read 4294967295 place (omega arith) (omega arith))
 
-submit_read : (coord : ℕ) (name : List ℕ) (args : List ℤ) → coord < 16 → is_name name ≡ true → AllByRecursion IsPlainNumber args → act_of plain_forms (codes "submit" ∷ fmt.decimal coord ∷ name ∷ map fmt.signed_decimal args) ≡ Some (Submit coord name args)
+submit_read : (stops : Bool) (coord : ℕ) (name : List ℕ) (args : List ℤ) → coord < 16 → is_name name ≡ true → AllByRecursion IsPlainNumber args
+    → act_of (forms_with stops) (codes "submit" ∷ fmt.decimal coord ∷ name ∷ map fmt.signed_decimal args) ≡ Some (Submit coord name args)
 unfolding act_of
-submit_read coord name args few named all = rw (named, number_read 9223372036854775807 coord (omega arith) (omega arith), integers_read args all) refl
+submit_read stops coord name args few named all = rw (named, number_read 9223372036854775807 coord (omega arith) (omega arith), integers_read args all) refl
 
 any_line : (place : ℕ) → act_line (Any place) ≡ spaced_words (codes "any") (fmt.decimal place ∷ []) ++ 10 ∷ []
 any_line place = simp append_assoc
@@ -176,7 +177,7 @@ act_words (Submit coord name args) h = record {
   first_part = record { some = refl; above = (omega arith, (omega arith, (omega arith, (omega arith, (omega arith, (omega arith, tt)))))) };
   other_parts = (number_part coord (let few = h.coord in omega arith), (h.part, integer_parts args h.args));
   kept = refl;
-  read = λ shards number. ap (λ o. numbered_line number (or_node plain_forms shards (or_word o))) (submit_read coord name args h.coord h.name h.args)
+  read = λ stops shards number. ap (λ o. numbered_line number (or_node (forms_with stops) shards (or_word o))) (submit_read stops coord name args h.coord h.name h.args)
       ∙ ap (λ b. numbered_line number (cond b (Ok (Submit coord name args)) (Err what.Node))) (lt-ltb coord 16 h.coord);
   short = submit_short coord name args h;
 }
@@ -187,7 +188,7 @@ act_words (Any place) h = record {
   first_part = record { some = refl; above = (omega arith, (omega arith, (omega arith, tt))) };
   other_parts = (number_part place (omega arith), tt);
   kept = refl;
-  read = λ shards number. ap (λ o. numbered_line number (or_node plain_forms shards (or_word o))) (any_read place h);
+  read = λ stops shards number. ap (λ o. numbered_line number (or_node (forms_with stops) shards (or_word o))) (any_read stops place h);
   short = any_short place h;
 }
 act_words (Deliver message) h = absurd h

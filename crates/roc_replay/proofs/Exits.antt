@@ -1,6 +1,5 @@
 -- What the sink took at each end of a replay
 use Rattle.std.proofs.Common.{◌≡◌, ℕ, suc, ◌+◌, ◌<◌, List, [], ◌∷◌, ◌++◌, length, map, take, drop, get_or, Bool, true, false, cond, refl, sym, ap, subst, ◌∙◌, arith, take-append-drop}
-use Rattle.std.proofs.lemmas.Bool.{ltb-true, false≢true}
 use Rattle.std.proofs.lemmas.Grind.{flat_map-append}
 use Rattle.std.proofs.lemmas.List.{append-nil}
 use Rattle.std.specs.Prelude.{Option, count_by, fold}
@@ -12,7 +11,6 @@ use Rattle.roc_io.proofs.Told.{Adds-trans, AddsThenFront-behind}
 use Rattle.roc_plan.specs.Groups.{Plan}
 use Rattle.roc_views.specs.Run.{Stepped, IsRun}
 use Rattle.roc_views.specs.World.{World}
-use Rattle.roc_protocol.specs.declared.event.Event.TheVariants as event
 use Rattle.roc_world.specs.Reads.{cells_of, unanswered_of}
 use Rattle.roc_report.specs.Line.{Line, Row, Pending}
 use Rattle.roc_report.specs.ReportLine.{HasSmallNumbers, HaveSmallNumbers, NamesPartsOf, IsReportLine}
@@ -20,8 +18,6 @@ use Rattle.roc_report.specs.Text.{line_text, lines_text}
 use Rattle.roc_replay.specs.declared.ended.Ended.{Ended}
 use Rattle.roc_replay.specs.declared.ended.Ended.TheVariants.{Done, Text, SinkFault, NoMemory}
 use Rattle.roc_replay.specs.declared.asked.BoundLine.{BoundLine}
-use Rattle.roc_replay.specs.declared.asked.Wanted.{Wanted}
-use Rattle.roc_replay.specs.declared.asked.Wanted.TheVariants as wanted
 use Rattle.roc_replay.specs.BoundLine.{IsScheduleOf, coordinators, event_in}
 use Rattle.roc_replay.specs.Cells.{by_cell}
 use Rattle.roc_replay.specs.Inner.Closed.{IsClosed, wants_unsent}
@@ -30,6 +26,7 @@ use Rattle.roc_replay.specs.Inner.Ends.{IsEnd}
 use Rattle.roc_replay.specs.Played.{IsPlayedLine}
 use Rattle.roc_replay.specs.Report.{is_busy, busy_in, end_line, closing_lines, steps_lines, report}
 use Rattle.roc_replay.specs.Readback.{IsExplained}
+use Rattle.roc_replay.proofs.AskedMessages.{is_not_there}
 use Rattle.roc_replay.proofs.Playing.{played_run}
 use Rattle.roc_replay.proofs.SoFar.{IsSoFar, count_by-append}
 
@@ -40,29 +37,21 @@ none_counted p f none (x ∷ xs) = ap (λ b. fold (λ n y. n + cond (p y) 1 0) (
 -- ---- the ends
 
 module _ (plan : Plan) (schedule : List ℕ) (lines : List BoundLine) (of : IsScheduleOf plan.program schedule lines) where
-  -- the next line asks for a message that was not sent
+  -- the next line asks for a message that is not there
   pub unsent_end : (i : ℕ) (line : BoundLine) (w : World) (busy : ℕ) (old now : Option (List ℕ)) → i < length lines → line ≡ get_or lines i line
-      → IsSoFar plan (take i lines) w busy old now → wants_unsent line.wanted (length w.sent) ≡ true → IsUnsent plan schedule line.number old now
-  unsent_end i line w busy old now within is so asks = go line.wanted refl asks
-    where
-      go : (a : Wanted) → line.wanted ≡ a → wants_unsent a (length w.sent) ≡ true → IsUnsent plan schedule line.number old now
-      go (wanted.Any place) e t = absurd (false≢true t)
-      go (wanted.Event (event.Submit coord proc args)) e t = absurd (false≢true t)
-      go (wanted.Event (event.Tick node)) e t = absurd (false≢true t)
-      go (wanted.Event (event.Deliver k)) e t = record {
-        before = take i lines;
-        line = line;
-        behind = drop (suc i) lines;
-        of_schedule = subst (IsScheduleOf plan.program schedule) (sym (parts_at lines i line within is)) of;
-        numbered = refl;
-        message = k;
-        asks = e;
-        steps = so.steps;
-        world = w;
-        played = so.played;
-        unsent = ltb-true (length w.sent) k t;
-        taken = so.taken;
-      }
+      → IsSoFar plan (take i lines) w busy old now → wants_unsent line.wanted w.sent ≡ true → IsUnsent plan schedule line.number old now
+  unsent_end i line w busy old now within is so asks = record {
+    before = take i lines;
+    line = line;
+    behind = drop (suc i) lines;
+    of_schedule = subst (IsScheduleOf plan.program schedule) (sym (parts_at lines i line within is)) of;
+    numbered = refl;
+    steps = so.steps;
+    world = w;
+    played = so.played;
+    unsent = is_not_there w line.wanted asks;
+    taken = so.taken;
+  }
 
   -- no memory for the next line
   pub stopped_end : (i : ℕ) (w : World) (busy : ℕ) (old now : Option (List ℕ)) → IsSoFar plan (take i lines) w busy old now → IsUnfinished plan schedule old now

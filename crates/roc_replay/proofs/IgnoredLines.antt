@@ -84,6 +84,7 @@ first_stale plan w None o stale h = quiet (first_lines None o.seen) refl
 first_stale plan w (Some (event.Submit coord proc args)) o stale h = quiet (submission_lines coord proc args o.seen) (submission_quiet coord proc args o.seen)
 first_stale plan w (Some (event.Deliver k)) o stale h = delivery_stale k o.seen (λ why. stale k why h)
 first_stale plan w (Some (event.Tick node)) o stale h = quiet (first_lines (Some (event.Tick node)) o.seen) refl
+first_stale plan w (Some (event.Stop shard during)) o stale h = quiet (first_lines (Some (event.Stop shard during)) o.seen) refl
 
 -- ---- a report
 

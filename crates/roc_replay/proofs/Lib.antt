@@ -1,3 +1,4 @@
+mod AskedMessages
 pub mod Complete
 pub mod Exits
 pub mod Growing

@@ -17,7 +17,7 @@ use Rattle.roc_coord.specs.declared.handled.SubmitFault.TheVariants as fault
 use Rattle.roc_coord.specs.State.{CoordState}
 use Rattle.roc_coord.specs.Submit.{refused_or_accepted, after_submit, most_transactions, most_pending}
 use Rattle.roc_protocol.specs.declared.event.Event.{Event}
-use Rattle.roc_protocol.specs.declared.event.Event.TheVariants.{Submit, Deliver, Tick}
+use Rattle.roc_protocol.specs.declared.event.Event.TheVariants.{Submit, Deliver, Tick, Stop}
 use Rattle.roc_protocol.specs.declared.event.Seen.{Seen}
 use Rattle.roc_protocol.specs.declared.event.Seen.TheVariants as seen
 use Rattle.roc_views.specs.World.{World}
@@ -69,6 +69,7 @@ module _ (plan : Plan) where
   first_parts w (Some (Submit n proc args)) o (s, there, h) = submission_parts n proc args o.seen (known_procedure plan w n proc args s o h)
   first_parts w (Some (Deliver k)) o h = (tt, untaken_parts o.seen)
   first_parts w (Some (Tick node)) o h = (tt, tt)
+  first_parts w (Some (Stop shard during)) o h = (tt, tt)
 
   sends_parts : (number : ℕ) (sent : List Envelope) → NameParts (send_lines number sent)
   sends_parts number [] = tt

@@ -26,6 +26,7 @@ use Rattle.roc_msg.specs.declared.reason.Reason.TheVariants.{NotHere}
 use Rattle.roc_step.specs.declared.handled.Handled.{Handled}
 use Rattle.roc_step.specs.declared.handled.Handled.TheVariants.{Gone}
 use Rattle.roc_step.specs.declared.started.StartedGroup.{StartedGroup}
+use Rattle.roc_step.specs.Reads.{ReadStep}
 use Rattle.roc_step.specs.State.{ServerState, ServerStep, find_group, hearing, is_here, refused, ignored, answered}
 use Rattle.roc_protocol.specs.Beginnings as protocol
 use Rattle.roc_step.specs.Start.{start_refusal, start_judged, start_taken, is_immediate_group}
@@ -34,9 +35,10 @@ use Rattle.roc_step.specs.Lists.{decides, commit_refusal, after_commit, fetch_ta
 use Rattle.roc_step.specs.Step as server
 use Rattle.roc_step.specs.Step.{Findings}
 use Rattle.roc_protocol.specs.declared.event.Event.{Event}
-use Rattle.roc_protocol.specs.declared.event.Event.TheVariants.{Submit, Deliver, Tick}
+use Rattle.roc_protocol.specs.declared.event.Event.TheVariants.{Submit, Deliver, Tick, Stop}
 use Rattle.roc_views.specs.World.{World, mark_delivered}
-use Rattle.roc_views.specs.Happens.{Outcome, Submits, IsReceived}
+use Rattle.roc_protocol.specs.declared.event.Kept.{Kept}
+use Rattle.roc_views.specs.Happens.{Outcome, Submits, IsReceived, StopsIn, at_rest, unrecorded, recorded, restarted}
 use Rattle.roc_views.specs.Run.{Stepped, Transition, IsRun, at_beginning, steps_on}
 use Rattle.roc_protocol.proofs.ReadsHere.{for_read}
 use Rattle.roc_coord.specs.declared.handled.SubmitFault.{SubmitFault}
@@ -216,6 +218,17 @@ module _ (laws : ReadLaws) (plan : Plan) (ok : IsProgram plan.program) where
   step_own w h (Some (Tick (Server shard))) o (s, v, there, keeps, e) =
       subst (λ (o : Outcome). OwnServers o.world.servers) (sym e) (all_set (λ (s : ServerState). HoldsOwn plan.program s.store) w.servers shard.0 s h (own_there w h shard.0 s there))
   step_own w h (Some (Tick (Coord n))) o (s, there, e) = subst (λ (o : Outcome). OwnServers o.world.servers) (sym e) h
+  step_own w h (Some (Stop shard during)) o x = subst (λ (o : Outcome). OwnServers o.world.servers) (sym x.is) (go during x.before x.step x.reads x.stops)
+    where
+      own : HoldsOwn plan.program x.state.store
+      own = own_there w h shard.0 x.state x.there
+
+      go : (at : Option (ℕ × Kept)) (before : World) (r : ServerStep) (q : ReadStep) → StopsIn plan w shard.0 x.state x.viewing at before r q → OwnServers (restarted before shard.0 r q).world.servers
+      go at before r q at_rest = all_set (λ (s : ServerState). HoldsOwn plan.program s.store) w.servers shard.0 x.state h own
+      go at before r q (unrecorded k m sent) = all_set (λ (s : ServerState). HoldsOwn plan.program s.store) w.servers shard.0 x.state h own
+      go at before r q (recorded k many m whole reads sent handles answers) =
+          let after : HoldsOwn plan.program whole.state.store = subst (λ (r : ServerStep). HoldsOwn plan.program r.state.store) (sym handles.is) (message_own x.state handles.findings m.msg own) in
+          all_set (λ (s : ServerState). HoldsOwn plan.program s.store) w.servers shard.0 whole.state h after
 
   pub run_own : (coords : ℕ) (steps : List Stepped) (w : World) → IsRun plan coords steps w → OwnServers w.servers
   run_own coords steps w at_beginning = first_own 0 plan.program.shards

@@ -1,18 +1,15 @@
 -- What the lines of a run show of its messages: each that was sent, and as delivered only what was; so what looks quiet is answered
-use Rattle.std.proofs.Common.{◌≡◌, ℕ, ℤ, zero, suc, ◌+◌, ◌-◌, ◌<◌, ◌≤◌, ◌==◌, not, List, [], ◌∷◌, ◌++◌, Option, Some, None, Result, Ok, Err, length, map, drop, refl, sym, ap, subst, ◌∙◌, inl, inr, arith, append-nil, length-append}
-use Rattle.std.proofs.lemmas.Bool.{eq-eqb, not-true, false≢true}
+use Rattle.std.proofs.Common.{◌≡◌, ℕ, ℤ, zero, suc, ◌+◌, ◌-◌, ◌<◌, ◌≤◌, List, [], ◌∷◌, ◌++◌, Option, Some, None, Result, Ok, Err, length, map, drop, refl, sym, ap, subst, ◌∙◌, ◌⊎◌, inl, inr, arith, append-nil, append_assoc, length-append}
 use Rattle.std.proofs.lemmas.List.Prefix.{front_rest}
-use Rattle.std.proofs.lemmas.Option.{slice_get_within}
-use Rattle.std.specs.List.{range_with_len}
 use Rattle.std.specs.Prelude.{slice_get}
 use Rattle.roc_sequence.specs.Lists.{Has}
-use Rattle.roc_sequence.proofs.Members.{has_append, has_left, has_right, from_has_map, from_has_filter, has_flat_map, from_has_flat_map}
+use Rattle.roc_sequence.proofs.Members.{has_append, has_left, has_right, from_has_map, has_flat_map, from_has_flat_map, same_there}
 use Rattle.roc_base.specs.declared.id.TxnId.{TxnId}
 use Rattle.roc_base.specs.declared.node.Node.{Node}
 use Rattle.roc_base.specs.declared.node.Node.TheVariants.{Server, Coord}
+use Rattle.roc_base.specs.declared.node.Shard.{Shard}
 use Rattle.roc_depgraph.specs.Reach.{ReachesOrIs}
 use Rattle.roc_depgraph.proofs.Chains.{weaker_chain}
-use Rattle.roc_merge_groups.proofs.Elements.{from_has_range}
 use Rattle.roc_msg.specs.declared.msg.Msg.{Msg}
 use Rattle.roc_msg.specs.declared.msg.Envelope.{Envelope}
 use Rattle.roc_msg.specs.declared.outbox.Outgoing.{Outgoing}
@@ -21,24 +18,30 @@ use Rattle.roc_plan.specs.Groups.{Plan}
 use Rattle.roc_coord.specs.declared.handled.SubmitFault.{SubmitFault}
 use Rattle.roc_coord.specs.declared.handled.SubmitFault.TheVariants as fault
 use Rattle.roc_coord.specs.State.{CoordState}
+use Rattle.roc_coord.specs.Step.{after_message}
+use Rattle.roc_coord.specs.Tick as ticking
+use Rattle.roc_step.specs.Reads.{ReadStep}
+use Rattle.roc_step.specs.State.{ServerState, ServerStep, Viewing}
+use Rattle.roc_step.specs.Step as server
 use Rattle.roc_audit.specs.declared.entry.Entry.TheVariants as entry
 use Rattle.roc_protocol.specs.declared.event.Event.{Event}
 use Rattle.roc_protocol.specs.declared.event.Event.TheVariants as event
+use Rattle.roc_protocol.specs.declared.event.Kept.{Kept}
 use Rattle.roc_protocol.specs.declared.event.Seen.{Seen}
 use Rattle.roc_protocol.specs.declared.event.Seen.TheVariants as seen
 use Rattle.roc_protocol.specs.World.{sent_by}
 use Rattle.roc_views.specs.World.{World, mark_delivered}
-use Rattle.roc_views.specs.Happens.{Outcome, Submits, IsReceived, Ticks, Happens}
+use Rattle.roc_views.specs.Happens.{Outcome, Submits, IsReceived, Ticks, StopsIn, at_rest, unrecorded, recorded, restarted, Happens}
 use Rattle.roc_views.specs.Run.{Stepped, Transition, IsRun, at_beginning, steps_on}
-use Rattle.roc_protocol.specs.Quiet.{PrecedesIn}
-use Rattle.roc_views.specs.Quiet.{AreDelivered, WasDelivered}
+use Rattle.roc_protocol.specs.Quiet.{PrecedesIn, Counts, StopsReceiver}
+use Rattle.roc_views.specs.Quiet.{AreDelivered}
 use Rattle.roc_world.specs.Reads.{cells_of, unanswered_of}
 use Rattle.roc_report.specs.Shown.{message_kind, edges_of, shown_message}
-use Rattle.roc_report.specs.Line.{Line, ShownMessage, Submit, Deliver, Send, Answer, Row, Pending}
+use Rattle.roc_report.specs.Line.{Line, ShownMessage, Submit, Deliver, Stopped, Send, Answer, Row, Pending}
 use Rattle.roc_report.proofs.Named.{id_is_shown}
 use Rattle.roc_replay.specs.Cells.{by_cell}
-use Rattle.roc_replay.specs.Report.{submission_lines, untaken_lines, first_lines, send_lines, answer_lines, step_lines, steps_lines, end_line, closing_lines, report}
-use Rattle.roc_replay.specs.Readback.{entries_in, history_in, IsShownBefore, LooksQuiet}
+use Rattle.roc_replay.specs.Report.{during_shown, submission_lines, untaken_lines, first_lines, send_lines, answer_lines, step_lines, steps_lines, end_line, closing_lines, report}
+use Rattle.roc_replay.specs.Readback.{entries_in, history_in, IsShownBefore, ShowsDelivery, LooksQuiet}
 use Rattle.roc_replay.proofs.Growing.{run_lines}
 
 -- ---- which lines show messages
@@ -91,6 +94,8 @@ module _ (Came : ℕ → Type 0) (Went : ℕ → ShownMessage → Type 0) where
   first_says (Some (event.Deliver k)) what f line (inr h) = untaken_says what line h
   first_says (Some (event.Tick node)) what f line (inl i) = subst Says (sym i) tt
   first_says (Some (event.Tick node)) what f line (inr h) = absurd h
+  first_says (Some (event.Stop shard during)) what f line (inl i) = subst Says (sym i) tt
+  first_says (Some (event.Stop shard during)) what f line (inr h) = absurd h
 
   sends_say : (number : ℕ) (sent : List Envelope) → ((n : ℕ) (message : ShownMessage) → Has (Send n message) (send_lines number sent) → Went n message) → (line : Line) → Has line (send_lines number sent) → Says line
   sends_say number [] f line h = absurd h
@@ -160,29 +165,16 @@ at_send number (x ∷ rest) n message (inr h) =
 
 -- ---- what an event sends
 
--- messages were sent after those of w, and what had been delivered there is still
+-- messages were sent after those of w
 abbrev SendsMore : World → World → Type 0
-SendsMore w v = (more : List Envelope) × (v.sent ≡ w.sent ++ more) × ((k : ℕ) → k ≤ length w.sent → WasDelivered w k → WasDelivered v k)
+SendsMore w v = (more : List Envelope) × (v.sent ≡ w.sent ++ more)
 
 sends_nothing : (w : World) → SendsMore w w
-sends_nothing w = ([], sym (append-nil w.sent), λ k l d. d)
-
--- numbers that come later are greater
-sends_these : (w : World) (from : Node) (outs : List Outgoing)
-    → (more : List Envelope) × (w.sent ++ map (sent_by from) outs ≡ w.sent ++ more)
-    × ((k : ℕ) → k ≤ length w.sent → WasDelivered w k → ¬ Has k (w.undelivered ++ range_with_len (length w.sent + 1) (length outs)))
-sends_these w from outs = (
-  map (sent_by from) outs,
-  refl,
-  λ k l d h. elim (has_append k w.undelivered (range_with_len (length w.sent + 1) (length outs)) h) [
-    | inl j ↦ d j
-    | inr j ↦ (let above = (from_has_range (length w.sent + 1) (length outs) k j).0 in absurd (omega arith))
-  ],
-)
+sends_nothing w = ([], sym (append-nil w.sent))
 
 submit_sends : (w : World) (coord proc : ℕ) (args : List ℤ) (after : CoordState) (outs : List Outgoing) (r : Result TxnId SubmitFault) (o : Outcome)
     → Submits w coord proc args after outs r o → SendsMore w o.world
-submit_sends w coord proc args after outs (Ok id) o e = subst (λ (x : Outcome). SendsMore w x.world) (sym e) (sends_these w (Coord coord) outs)
+submit_sends w coord proc args after outs (Ok id) o e = (map (sent_by (Coord coord)) outs, ap (λ (x : Outcome). x.world.sent) e)
 submit_sends w coord proc args after outs (Err fault.Spent) o e = subst (λ (x : Outcome). SendsMore w x.world) (sym e) (sends_nothing w)
 submit_sends w coord proc args after outs (Err fault.Busy) o e = subst (λ (x : Outcome). SendsMore w x.world) (sym e) (sends_nothing w)
 submit_sends w coord proc args after outs (Err fault.NoProc) o e = absurd e
@@ -190,41 +182,43 @@ submit_sends w coord proc args after outs (Err fault.Args) o e = absurd e
 submit_sends w coord proc args after outs (Err fault.NoMemory) o e = absurd e
 
 received_sends : (plan : Plan) (w : World) (msg : Msg) (to : Node) (o : Outcome) → IsReceived plan w msg to o → SendsMore w o.world
-received_sends plan w msg (Server shard) o h = subst (λ (x : Outcome). SendsMore w x.world) (sym h.is) (sends_these w (Server shard) (h.step.sends ++ h.reads.sends))
-received_sends plan w msg (Coord number) o (s, there, e) = subst (λ (x : Outcome). SendsMore w x.world) (sym e) (sends_these w (Coord number) _)
+received_sends plan w msg (Server shard) o h = (map (sent_by (Server shard)) (h.step.sends ++ h.reads.sends), ap (λ (x : Outcome). x.world.sent) h.is)
+received_sends plan w msg (Coord number) o (s, there, e) = (map (sent_by (Coord number)) (after_message plan s msg).sends, ap (λ (x : Outcome). x.world.sent) e)
 
 tick_sends : (plan : Plan) (w : World) (node : Node) (o : Outcome) → Ticks plan w node o → SendsMore w o.world
-tick_sends plan w (Server shard) o (s, v, there, keeps, e) = subst (λ (x : Outcome). SendsMore w x.world) (sym e) (sends_these w (Server shard) _)
-tick_sends plan w (Coord number) o (s, there, e) = subst (λ (x : Outcome). SendsMore w x.world) (sym e) (sends_these w (Coord number) _)
+tick_sends plan w (Server shard) o (s, v, there, keeps, e) = (map (sent_by (Server shard)) (server.tick_sends s ++ []), ap (λ (x : Outcome). x.world.sent) e)
+tick_sends plan w (Coord number) o (s, there, e) = (map (sent_by (Coord number)) (ticking.tick_sends plan s), ap (λ (x : Outcome). x.world.sent) e)
 
--- a message that comes leaves fewer undelivered, and not itself
-stays_delivered : (w : World) (k j : ℕ) → WasDelivered w j → WasDelivered (mark_delivered w k) j
-stays_delivered w k j d h = d (from_has_filter (λ (n : ℕ). not (n == k)) j w.undelivered h).0
-
-now_delivered : (w : World) (k : ℕ) → WasDelivered (mark_delivered w k) k
-now_delivered w k h = false≢true (sym (not-true (k == k) (from_has_filter (λ (n : ℕ). not (n == k)) k w.undelivered h).1) ∙ eq-eqb k k refl)
+stop_sends : (plan : Plan) (w : World) (shard : Shard) (s : ServerState) (v : Viewing) (during : Option (ℕ × Kept)) (before : World) (r : ServerStep) (q : ReadStep)
+    → StopsIn plan w shard.0 s v during before r q → SendsMore w (restarted before shard.0 r q).world
+stop_sends plan w shard s v during before r q stops = (
+  map (sent_by (Server shard)) (r.sends ++ q.sends) ++ map (sent_by (Server shard)) (server.tick_sends r.state),
+  ap (λ (l : List Envelope). (l ++ map (sent_by (Server shard)) (r.sends ++ q.sends)) ++ map (sent_by (Server shard)) (server.tick_sends r.state)) (same stops)
+      ∙ append_assoc w.sent (map (sent_by (Server shard)) (r.sends ++ q.sends)) (map (sent_by (Server shard)) (server.tick_sends r.state)),
+)
+  where
+    same : {d : Option (ℕ × Kept)} {u : World} {x : ServerStep} {y : ReadStep} → StopsIn plan w shard.0 s v d u x y → u.sent ≡ w.sent
+    same at_rest = refl
+    same (unrecorded k m sent) = refl
+    same (recorded k many m whole reads sent handles answers) = refl
 
 comes_sends : (plan : Plan) (w : World) (e : Option Event) (o : Outcome) → Transition plan w e o → SendsMore w o.world
 comes_sends plan w None o h = subst (λ (x : Outcome). SendsMore w x.world) (sym h) (sends_nothing w)
 comes_sends plan w (Some (event.Submit coord proc args)) o (s, there, h) = submit_sends w coord proc args _ _ _ o h
-comes_sends plan w (Some (event.Deliver k)) o (m, some, there, h) =
-    let r = received_sends plan (mark_delivered w k) m.msg m.to o h in
-    (r.0, r.1, λ j l d. r.2 j l (stays_delivered w k j d))
+comes_sends plan w (Some (event.Deliver k)) o (m, some, there, h) = received_sends plan (mark_delivered w k) m.msg m.to o h
 comes_sends plan w (Some (event.Tick node)) o h = tick_sends plan w node o h
+comes_sends plan w (Some (event.Stop shard during)) o x =
+    subst (λ (o : Outcome). SendsMore w o.world) (sym x.is) (stop_sends plan w shard x.state x.viewing during x.before x.step x.reads x.stops)
 
--- what is delivered had been sent
-comes_delivered : (plan : Plan) (w : World) (k : ℕ) (o : Outcome) → Happens plan w (event.Deliver k) o → (k ≤ length w.sent) × WasDelivered o.world k
-comes_delivered plan w k o (m, some, there, h) =
-    let within = slice_get_within w.sent (k - 1) m there in
-    let known : k ≤ length w.sent = omega arith in
-    (known, (received_sends plan (mark_delivered w k) m.msg m.to o h).2 k known (now_delivered w k))
+-- so no fewer are sent behind an event
+pub sends_no_fewer : (plan : Plan) (w : World) (e : Event) (o : Outcome) → Happens plan w e o → length w.sent ≤ length o.world.sent
+sends_no_fewer plan w e o h = let s = comes_sends plan w (Some e) o h in let long = ap length s.1 ∙ length-append w.sent s.0 in omega arith
 
 -- ---- what the lines of a run show
 
 record AreShown (w : World) (lines : List Line) : Type 0 where
   pub sends : (line : Line) → Has line (send_lines 1 w.sent) → Has line lines
   pub sent : (number : ℕ) (message : ShownMessage) → Has (Send number message) lines → Has (Send number message) (send_lines 1 w.sent)
-  pub delivered : (k : ℕ) → Has (Deliver k) lines → (k ≤ length w.sent) × WasDelivered w k
 
 -- one step more
 shown_more : (plan : Plan) (w : World) (lines : List Line) (step : Stepped) → Transition plan w step.event step.outcome → AreShown w lines → AreShown step.outcome.world (lines ++ step_lines w.sent step)
@@ -235,7 +229,6 @@ shown_more plan w lines step h shown =
     ap (send_lines 1) grown.1
     ∙ sends-append 1 w.sent grown.0
     ∙ ap (λ (new : List Envelope). send_lines 1 w.sent ++ send_lines (length w.sent + 1) new) (sym (front_rest v.sent w.sent grown.0 grown.1)) in
-    let longer : length v.sent ≡ length w.sent + length grown.0 = ap length grown.1 ∙ length-append w.sent grown.0 in
     record {
       sends = λ line k. elim (has_append line (send_lines 1 w.sent) (new_lines w.sent step) (subst (Has line) all k)) [
         | inl j ↦ has_left line lines (step_lines w.sent step) (shown.sends line j)
@@ -245,20 +238,69 @@ shown_more plan w lines step h shown =
         | inl j ↦ has_left (Send number message) (send_lines 1 w.sent) (new_lines w.sent step) (shown.sent number message j)
         | inr j ↦ has_right (Send number message) (send_lines 1 w.sent) (new_lines w.sent step) (step_says w.sent step (Send number message) j)
       ]);
-      delivered = λ k l. elim (has_append (Deliver k) lines (step_lines w.sent step) l) [
-        | inl j ↦ (let before = shown.delivered k j in let known = before.0 in (omega arith, grown.2 k known before.1))
-        | inr j ↦
-            (let now = comes_delivered plan w k step.outcome (subst (λ (e : Option Event). Transition plan w e step.outcome) (step_says w.sent step (Deliver k) j) h) in
-            let known = now.0 in
-            (omega arith, now.1))
-      ];
     }
 
 run_shown : (plan : Plan) (coords : ℕ) (steps : List Stepped) (w : World) → IsRun plan coords steps w → AreShown w (steps_lines [] steps)
-run_shown plan coords steps w at_beginning = record { sends = λ line h. elim h [ ]; sent = λ number message h. elim h [ ]; delivered = λ k h. elim h [ ] }
+run_shown plan coords steps w at_beginning = record { sends = λ line h. elim h [ ]; sent = λ number message h. elim h [ ] }
 run_shown plan coords steps w (steps_on {steps = before} {w = old} e o r h) =
     let step : Stepped = record { event = e; outcome = o } in
     subst (AreShown o.world) (sym (run_lines plan coords before old r step)) (shown_more plan old (steps_lines [] before) step h (run_shown plan coords before old r))
+
+-- ---- which deliveries count
+
+-- what stands at a place of two lists stands in the one or in the other, and what is behind it there
+split_at : {A : Type 0} (xs ys front : List A) (x : A) (behind : List A) → xs ++ ys ≡ front ++ x ∷ behind
+    → ((back : List A) × (xs ≡ front ++ x ∷ back) × (behind ≡ back ++ ys)) ⊎ ((rest : List A) × (front ≡ xs ++ rest) × (ys ≡ rest ++ x ∷ behind))
+split_at [] ys front x behind e = inr (front, refl, e)
+split_at (a ∷ xs) ys [] x behind e = let head : a ≡ x = cc in let tail : xs ++ ys ≡ behind = cc in inl (xs, (λ i. head i ∷ xs), sym tail)
+split_at (a ∷ xs) ys (f ∷ front) x behind e =
+    let head : a ≡ f = cc in
+    let tail : xs ++ ys ≡ front ++ x ∷ behind = cc in
+    elim (split_at xs ys front x behind tail) [
+      | inl k ↦ inl (k.0, (λ i. head i ∷ k.1 i), k.2)
+      | inr k ↦ inr (k.0, (λ i. sym head i ∷ k.1 i), k.2)
+    ]
+
+abbrev events_of : List Stepped → List (Option Event)
+events_of steps = map (λ (s : Stepped). s.event) steps
+
+-- each stop has its line
+stop_shown : (before : List Envelope) (steps : List Stepped) (shard : Shard) (during : Option (ℕ × Kept)) → Has (Some (event.Stop shard during)) (events_of steps)
+    → Has (Stopped shard (during_shown during)) (steps_lines before steps)
+stop_shown before [] shard during h = absurd h
+stop_shown before (step ∷ rest) shard during (inl e) =
+    has_left (Stopped shard (during_shown during)) (step_lines before step) (steps_lines step.outcome.world.sent rest)
+    (has_left (Stopped shard (during_shown during)) (first_lines step.event step.outcome.seen) (new_lines before step ++ answer_lines step.outcome.seen)
+    (subst (λ (e : Option Event). Has (Stopped shard (during_shown during)) (first_lines e step.outcome.seen)) e (inl refl)))
+stop_shown before (step ∷ rest) shard during (inr h) =
+    has_right (Stopped shard (during_shown during)) (step_lines before step) (steps_lines step.outcome.world.sent rest) (stop_shown step.outcome.world.sent rest shard during h)
+
+-- a line of a delivery is that of an event, and the stops behind that have lines behind it
+record IsDeliveredAt (steps : List Stepped) (k : ℕ) (behind : List Line) : Type 0 where
+  pub front : List (Option Event)
+  pub rest : List (Option Event)
+  pub at : events_of steps ≡ front ++ Some (event.Deliver k) ∷ rest
+  pub stops : (shard : Shard) (during : Option (ℕ × Kept)) → Has (Some (event.Stop shard during)) rest → Has (Stopped shard (during_shown during)) behind
+
+delivered_at : (before : List Envelope) (steps : List Stepped) (tail front behind : List Line) (k : ℕ) → ¬ Has (Deliver k) tail → steps_lines before steps ++ tail ≡ front ++ Deliver k ∷ behind → IsDeliveredAt steps k behind
+delivered_at before [] tail front behind k none e = absurd (none (subst (Has (Deliver k)) (sym e) (has_right (Deliver k) front (Deliver k ∷ behind) (inl refl))))
+delivered_at before (step ∷ rest) tail front behind k none e =
+    elim (split_at (step_lines before step) (steps_lines step.outcome.world.sent rest ++ tail) front (Deliver k) behind
+    (sym (append_assoc (step_lines before step) (steps_lines step.outcome.world.sent rest) tail) ∙ e)) [
+      | inl c ↦
+          (let is = step_says before step (Deliver k) (subst (Has (Deliver k)) (sym c.1) (has_right (Deliver k) front (Deliver k ∷ c.0) (inl refl))) in
+          record {
+            front = [];
+            rest = events_of rest;
+            at = ap (λ (e : Option Event). e ∷ events_of rest) is;
+            stops = λ shard during h. subst (Has (Stopped shard (during_shown during))) (sym c.2)
+                (has_right (Stopped shard (during_shown during)) c.0 (steps_lines step.outcome.world.sent rest ++ tail)
+                (has_left (Stopped shard (during_shown during)) (steps_lines step.outcome.world.sent rest) tail (stop_shown step.outcome.world.sent rest shard during h)));
+          })
+      | inr c ↦
+          (let r = delivered_at step.outcome.world.sent rest tail c.0 behind k none c.2 in
+          record { front = step.event ∷ r.front; rest = r.rest; at = ap (λ (l : List (Option Event)). step.event ∷ l) r.at; stops = r.stops })
+    ]
 
 -- ---- what a report shows
 
@@ -298,12 +340,22 @@ module _ (plan : Plan) (coords : ℕ) (steps : List Stepped) (w : World) (r : Is
     | inr k ↦ elim (closing_says (λ k. ⊥) (λ n m. ⊥) w (Send number message) k) [ ]
   ]
 
-  -- as delivered only what was
-  pub shown_was_delivered : (k : ℕ) → Has (Deliver k) lines → WasDelivered w k
-  shown_was_delivered k h = elim (has_append (Deliver k) (steps_lines [] steps) (closing_lines w) h) [
-    | inl j ↦ (shown.delivered k j).1
-    | inr j ↦ elim (closing_says (λ k. ⊥) (λ n m. ⊥) w (Deliver k) j) [ ]
-  ]
+  -- of what it shows as delivered a delivery counts
+  pub shown_counts : (k : ℕ) (m : Envelope) → slice_get w.sent k ≡ Some m → ShowsDelivery lines (suc k) m.to → Counts (events_of steps) w.sent (suc k)
+  shown_counts k m there shows = record { front = cut.front; behind = cut.rest; at = cut.at; since = since }
+    where
+      cut : IsDeliveredAt steps (suc k) shows.behind
+      cut = delivered_at [] steps (closing_lines w) shows.front shows.behind (suc k) (λ h. closing_says (λ k. ⊥) (λ n m. ⊥) w (Deliver (suc k)) h) shows.is
+
+      since : (e : Option Event) (n : Envelope) → Has e cut.rest → slice_get w.sent (suc k - 1) ≡ Some n → ¬ StopsReceiver e n.to
+      since None n h at stops = absurd stops
+      since (Some (event.Submit coord proc args)) n h at stops = absurd stops
+      since (Some (event.Deliver j)) n h at stops = absurd stops
+      since (Some (event.Tick node)) n h at stops = absurd stops
+      since (Some (event.Stop shard during)) n h at stops =
+          let index : k ≡ suc k - 1 = omega arith in
+          let same : m ≡ n = same_there w.sent (suc k - 1) m n (subst (λ (i : ℕ). slice_get w.sent i ≡ Some m) index there) at in
+          shows.since shard (during_shown during) (cut.stops shard during h) (ap (λ (m : Envelope). m.to) same ∙ stops)
 
   -- and each startok with its entries
   pub precedes_is_shown : (u t : TxnId) → PrecedesIn w.sent u t → IsShownBefore lines u t
@@ -329,7 +381,7 @@ module _ (plan : Plan) (coords : ℕ) (steps : List Stepped) (w : World) (r : Is
             (let index : k ≡ suc k - 1 = omega arith in
             let own = sent_is_shown (suc k) (shown_message m) (m, omega arith, subst (λ (n : ℕ). slice_get w.sent n ≡ Some m) index there, refl) in
             let led : ReachesOrIs (IsShownBefore lines) u t = elim chain [ inl e ↦ inl e | inr c ↦ inr (weaker_chain (PrecedesIn w.sent) (IsShownBefore lines) precedes_is_shown u t c) ] in
-            shown_was_delivered (suc k) (looks.each (suc k) (shown_message m) u own (id_is_shown m ∙ is) led));
+            shown_counts k m there (looks.each (suc k) (shown_message m) u own (id_is_shown m ∙ is) led));
       }
 
 -- the lines show the history

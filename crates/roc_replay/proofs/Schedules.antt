@@ -1,6 +1,7 @@
 -- What the lines of a schedule of a program keep to, and that a text has one and is not to blame then
 use Rattle.std.proofs.Common.{◌≡◌, ◌⊎◌, inl, inr, ℕ, ◌<◌, ℤ, Bool, true, false, ◌==◌, if◌then◌else◌, List, [], ◌∷◌, ◌++◌, length, take, drop, get_or, suc, Option, Some, None, Result, Ok, Err, refl, sym, ap, subst, ◌∙◌}
 use Rattle.std.specs.List.{AllByRecursion}
+use Rattle.std.specs.Prelude.{IfSome}
 use Rattle.std.specs.Option.{option_and_then}
 use Rattle.std.proofs.lemmas.Bool.{eqb-true}
 use Rattle.std.specs.Str.{bytes_eq}
@@ -19,13 +20,12 @@ use Rattle.roc_sched.specs.declared.line.Act.TheVariants as act
 use Rattle.roc_sched.specs.declared.line.Line.{Line}
 use Rattle.roc_sched.specs.Each.{◌>>=◌, each}
 use Rattle.roc_sched.specs.declared.forms.Forms.{Forms}
-use Rattle.roc_sched.specs.Forms.{plain_forms}
 use Rattle.roc_sched.specs.Schedule.{IsSchedule, IsScheduleFault, item_of}
-use Rattle.roc_sched.specs.Fits.{IsActFor}
+use Rattle.roc_sched.specs.Fits.{IsActFor, IsDuring}
 use Rattle.roc_replay.specs.declared.asked.BoundLine.{BoundLine}
 use Rattle.roc_replay.specs.declared.asked.Wanted.{Wanted}
 use Rattle.roc_replay.specs.declared.asked.Wanted.TheVariants as wanted
-use Rattle.roc_replay.specs.BoundLine.{arguments_of, submission_of, wanted_by, numbered, asked_by, IsScheduleOf, IsUnfit, WantedFits}
+use Rattle.roc_replay.specs.BoundLine.{played_forms, arguments_of, stop_during, IsStopOf, submission_of, wanted_by, numbered, asked_by, IsScheduleOf, IsUnfit, WantedFits}
 use Rattle.roc_replay.specs.Inner.Reading.{GivesAtLine, DoFit, IsUnfitBy}
 
 -- ---- what each line asks for
@@ -63,24 +63,29 @@ module _ (program : Workload) where
           subst (WantedFits program) one (there, (position-Some (λ procedure. bytes_eq procedure.name name) program.procedures proc no_procedure found).0, eqb-true (length args) (arguments_of program proc) count)
       go false count same = absurd (cc)
 
-  act_fits : (a : Act) (w : Wanted) → IsActFor plain_forms program.shards a → wanted_by program a ≡ Ok w → WantedFits program w
+  stop_fits : (during : Option (ℕ × Option ℕ)) → IfSome during IsDuring → IsStopOf (stop_during during)
+  stop_fits None fits = tt
+  stop_fits (Some (message, many)) fits = fits.0
+
+  act_fits : (a : Act) (w : Wanted) → IsActFor played_forms program.shards a → wanted_by program a ≡ Ok w → WantedFits program w
   act_fits (act.Submit coord name args) w fits h = submission_fits coord args name (procedure_named program name) _ fits.0 refl h w refl
   act_fits (act.Deliver message) w fits h = let one : wanted.Event (event.Deliver message) ≡ w = cc in subst (WantedFits program) one fits
   act_fits (act.Any place) w fits h = let one : wanted.Any place ≡ w = cc in subst (WantedFits program) one fits
-  act_fits (act.Stop shard during) w fits h = absurd (cc)
+  act_fits (act.Stop shard during) w fits h =
+      let one : wanted.Event (event.Stop shard (stop_during during)) ≡ w = cc in subst (WantedFits program) one (fits.1, stop_fits during fits.2)
   act_fits (act.Drain coord) w fits h = absurd (cc)
   act_fits (act.Tick node) w fits h = let one : wanted.Event (event.Tick node) ≡ w = cc in subst (WantedFits program) one fits
 
-  line_fits : (line : Line) (one : BoundLine) → IsActFor plain_forms program.shards line.act → item_of (asked_by program line) ≡ Some one → WantedFits program one.wanted
+  line_fits : (line : Line) (one : BoundLine) → IsActFor played_forms program.shards line.act → item_of (asked_by program line) ≡ Some one → WantedFits program one.wanted
   line_fits line one fits h = go (wanted_by program line.act) refl h
     where
       go : (r : Result Wanted What) → wanted_by program line.act ≡ r → item_of (numbered line.number r) ≡ Some one → WantedFits program one.wanted
       go (Err fault) k h = absurd (none-some one h)
       go (Ok w) k h = let same : record { number = line.number; wanted = w } ≡ one = same_Some _ one h in subst (λ (x : BoundLine). WantedFits program x.wanted) same (act_fits line.act w fits k)
 
-  pub asked_fit : (lines : List Line) (asked : List BoundLine) → AllByRecursion (λ line. IsActFor plain_forms program.shards line.act) lines → each (λ line. item_of (asked_by program line)) lines ≡ Some asked
+  pub asked_fit : (lines : List Line) (asked : List BoundLine) → AllByRecursion (λ line. IsActFor played_forms program.shards line.act) lines → each (λ line. item_of (asked_by program line)) lines ≡ Some asked
       → AllByRecursion (λ one. WantedFits program one.wanted) asked
-  asked_fit lines asked fits e = each_made (λ line. item_of (asked_by program line)) (λ line. IsActFor plain_forms program.shards line.act) (λ one. WantedFits program one.wanted) line_fits lines asked fits e
+  asked_fit lines asked fits e = each_made (λ line. item_of (asked_by program line)) (λ line. IsActFor played_forms program.shards line.act) (λ one. WantedFits program one.wanted) line_fits lines asked fits e
 
   -- the line that does not fit, behind those that do
   pub first_unfit : (lines : List Line) (i : ℕ) (line : Line) (fault : TextFault) → i < length lines → line ≡ get_or lines i line → DoFit program (take i lines)
@@ -102,14 +107,14 @@ module _ (program : Workload) where
     -- a text is a schedule of one list of what is asked
     pub one_schedule : (text : List ℕ) (some others : List BoundLine) → IsScheduleOf program text some → IsScheduleOf program text others → some ≡ others
     one_schedule text some others p q =
-        same_Some some others (sym p.asks ∙ ap (λ (ls : List Line). each (λ line. item_of (asked_by program line)) ls) (unique plain_forms program.shards text p.lines q.lines p.schedule q.schedule) ∙ q.asks)
+        same_Some some others (sym p.asks ∙ ap (λ (ls : List Line). each (λ line. item_of (asked_by program line)) ls) (unique played_forms program.shards text p.lines q.lines p.schedule q.schedule) ∙ q.asks)
 
     -- and is not to blame then
     pub not_blamed : ((forms : Forms) (shards : ℕ) (text : List ℕ) (lines : List Line) (line : ℕ) (fault : What) → IsSchedule forms shards text lines → IsScheduleFault forms shards text line fault → ⊥)
-        → (text : List ℕ) (asked : List BoundLine) (line : ℕ) (fault : What) → IsScheduleOf program text asked → IsScheduleFault plain_forms program.shards text line fault ⊎ IsUnfit program text line fault → ⊥
-    not_blamed apart text asked line fault of (inl wrong) = apart plain_forms program.shards text of.lines line fault of.schedule wrong
+        → (text : List ℕ) (asked : List BoundLine) (line : ℕ) (fault : What) → IsScheduleOf program text asked → IsScheduleFault played_forms program.shards text line fault ⊎ IsUnfit program text line fault → ⊥
+    not_blamed apart text asked line fault of (inl wrong) = apart played_forms program.shards text of.lines line fault of.schedule wrong
     not_blamed apart text asked line fault of (inr u) =
         none-some asked
         (sym (each_none (λ line. item_of (asked_by program line)) u.before u.line u.behind (ap item_of u.is))
-        ∙ ap (λ (ls : List Line). each (λ line. item_of (asked_by program line)) ls) (unique plain_forms program.shards text (u.before ++ u.line ∷ u.behind) of.lines u.schedule of.schedule)
+        ∙ ap (λ (ls : List Line). each (λ line. item_of (asked_by program line)) ls) (unique played_forms program.shards text (u.before ++ u.line ∷ u.behind) of.lines u.schedule of.schedule)
         ∙ of.asks)

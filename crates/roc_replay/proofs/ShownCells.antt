@@ -82,6 +82,7 @@ cells_in-sends number (s ∷ rest) = cells_in-sends (number + 1) rest
 cells_in-first : (e : Option Event) (s : Seen) → cells_in (first_lines e s) ≡ []
 cells_in-first None s = refl
 cells_in-first (Some (event.Tick node)) s = refl
+cells_in-first (Some (event.Stop shard during)) s = refl
 cells_in-first (Some (event.Submit coord proc args)) (seen.Submitted id) = refl
 cells_in-first (Some (event.Submit coord proc args)) seen.Spent = refl
 cells_in-first (Some (event.Submit coord proc args)) seen.Busy = refl

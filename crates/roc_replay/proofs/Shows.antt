@@ -16,6 +16,10 @@ use Rattle.roc_rows.specs.Store.{read}
 use Rattle.roc_depgraph.proofs.Chains.{weaker_chain}
 use Rattle.roc_plan.specs.Groups.{Plan, is_view_of}
 use Rattle.roc_whole.specs.Serial.{serial_store, start_store}
+use Rattle.roc_base.specs.declared.node.Shard.{Shard}
+use Rattle.roc_step.specs.Reads.{ReadStep}
+use Rattle.roc_step.specs.State.{ServerState, ServerStep, Viewing}
+use Rattle.roc_protocol.specs.declared.event.Kept.{Kept}
 use Rattle.roc_step.specs.declared.handled.Handled.{Handled as ServerHandled}
 use Rattle.roc_step.specs.declared.handled.Handled.TheVariants as server_answer
 use Rattle.roc_coord.specs.declared.handled.Handled.{Handled as CoordHandled}
@@ -34,7 +38,7 @@ use Rattle.roc_protocol.specs.declared.event.Seen.{Seen}
 use Rattle.roc_protocol.specs.declared.event.Seen.TheVariants as seen
 use Rattle.roc_views.specs.World.{World, mark_delivered}
 use Rattle.roc_protocol.specs.Happens.{server_seen, coord_seen, answer_entries}
-use Rattle.roc_views.specs.Happens.{Outcome, Submits, IsReceived, Ticks, Happens}
+use Rattle.roc_views.specs.Happens.{Outcome, Submits, IsReceived, Ticks, StopsIn, at_rest, unrecorded, recorded, restarted, Happens}
 use Rattle.roc_protocol.specs.Quiet as transactions
 use Rattle.roc_views.specs.Quiet.{PrecedesIn, is_told, AreDelivered, IsQuiet, IsInLastRound}
 use Rattle.roc_views.specs.Witness.{witness_of}
@@ -113,11 +117,20 @@ unfolding Gains
 tick_gains plan w (Server shard) o (s, v, there, keeps, e) = subst (λ (x : Outcome). Gains w (Some (event.Tick (Server shard))) x) (sym e) (sym (append-nil w.history))
 tick_gains plan w (Coord number) o (s, there, e) = subst (λ (x : Outcome). Gains w (Some (event.Tick (Coord number))) x) (sym e) (sym (append-nil w.history))
 
+stop_gains : (plan : Plan) (w : World) (shard : Shard) (own : Option (ℕ × Kept)) (s : ServerState) (v : Viewing) (during : Option (ℕ × Kept)) (before : World) (r : ServerStep) (q : ReadStep)
+    → StopsIn plan w shard.0 s v during before r q → Gains w (Some (event.Stop shard own)) (restarted before shard.0 r q)
+unfolding Gains
+stop_gains plan w shard own s v during before r q at_rest = sym (append-nil w.history)
+stop_gains plan w shard own s v during before r q (unrecorded k m sent) = sym (append-nil w.history)
+stop_gains plan w shard own s v during before r q (recorded k many m whole reads sent handles answers) = sym (append-nil w.history)
+
 happens_gains : (plan : Plan) (w : World) (e : Event) (o : Outcome) → Happens plan w e o → Gains w (Some e) o
 unfolding Gains
 happens_gains plan w (event.Submit coord proc args) o (s, there, h) = submit_gains w coord proc args _ _ _ o h
 happens_gains plan w (event.Deliver k) o (m, some, there, h) = received_gains plan (mark_delivered w k) k m.msg m.to o h
 happens_gains plan w (event.Tick node) o h = tick_gains plan w node o h
+happens_gains plan w (event.Stop shard during) o x =
+    subst (λ (o : Outcome). Gains w (Some (event.Stop shard during)) o) (sym x.is) (stop_gains plan w shard during x.state x.viewing during x.before x.step x.reads x.stops)
 
 comes_gains : (plan : Plan) (w : World) (e : Option Event) (o : Outcome) → Transition plan w e o → Gains w e o
 unfolding Gains
@@ -141,6 +154,7 @@ run_history plan coords steps w (steps_on {steps = before} {w = old} e o r h) =
 orders_in-first : (e : Option Event) (s : Seen) → orders_in (first_lines e s) ≡ []
 orders_in-first None s = refl
 orders_in-first (Some (event.Tick node)) s = refl
+orders_in-first (Some (event.Stop shard during)) s = refl
 orders_in-first (Some (event.Submit coord proc args)) (seen.Submitted id) = refl
 orders_in-first (Some (event.Submit coord proc args)) seen.Spent = refl
 orders_in-first (Some (event.Submit coord proc args)) seen.Busy = refl

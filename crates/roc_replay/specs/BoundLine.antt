@@ -1,20 +1,24 @@
 -- Schedules of a program, what their lines ask for, and which event that is in a world: docs/FORMATS.md, "Schedule".
-use Rattle.std.specs.Prelude.{◌≡◌, ℕ, ℤ, ◌<◌, ◌%◌, ◌^◌, ◌==◌, if◌then◌else◌, List, [], ◌∷◌, ◌++◌, length, Option, Some, None, Result, Ok, Err, slice_index_or}
+use Rattle.std.specs.Prelude.{◌≡◌, ℕ, ℤ, true, ◌<◌, ◌≤◌, ◌%◌, ◌^◌, ◌==◌, if◌then◌else◌, List, [], ◌∷◌, ◌++◌, length, Option, Some, None, Result, Ok, Err, slice_index_or}
 use Rattle.std.specs.List.{AllByRecursion}
 use Rattle.roc_base.specs.declared.node.Node.{Node}
 use Rattle.roc_base.specs.declared.node.Node.TheVariants.{Server, Coord}
 use Rattle.roc_program.specs.Program.{Workload}
 use Rattle.roc_program.specs.LookUps.{no_procedure, procedure_named}
 use Rattle.roc_views.specs.World.{World}
+use Rattle.roc_views.specs.Run.{IsSentIn}
 use Rattle.roc_protocol.specs.declared.event.Event.{Event}
 use Rattle.roc_protocol.specs.declared.event.Event.TheVariants as event
+use Rattle.roc_protocol.specs.declared.event.Kept.{Kept}
+use Rattle.roc_protocol.specs.declared.event.Kept.TheVariants.{Lost, Sent}
 use Rattle.roc_sched.specs.declared.fault.What.{What}
 use Rattle.roc_sched.specs.declared.fault.What.TheVariants as what
+use Rattle.roc_sched.specs.declared.forms.Forms.{Forms}
 use Rattle.roc_sched.specs.declared.line.Act.{Act}
 use Rattle.roc_sched.specs.declared.line.Act.TheVariants as act
 use Rattle.roc_sched.specs.declared.line.Line.{Line}
 use Rattle.roc_sched.specs.Each.{each}
-use Rattle.roc_sched.specs.Forms.{plain_forms}
+use Rattle.roc_sched.specs.Fits.{IsMessageNumber}
 use Rattle.roc_sched.specs.Schedule.{IsSchedule, item_of, fault_of}
 use Rattle.roc_replay.specs.declared.asked.BoundLine.{BoundLine}
 use Rattle.roc_replay.specs.declared.asked.Wanted.{Wanted}
@@ -23,6 +27,10 @@ use Rattle.roc_replay.specs.declared.asked.Wanted.TheVariants as wanted
 -- how many coordinators there are
 abbrev pub coordinators : ℕ
 coordinators = 16
+
+-- the forms of lines that are played: those of any schedule, and stops of servers
+abbrev pub played_forms : Forms
+played_forms = record { stops = true; coords = None }
 
 -- ---- what a line asks for
 
@@ -35,13 +43,22 @@ abbrev pub submission_of : Workload → (coord : ℕ) (args : List ℤ) → (pro
 submission_of program coord args None = Err what.Procedure
 submission_of program coord args (Some proc) = if length args == arguments_of program proc then Ok (wanted.Event (event.Submit coord proc args)) else Err what.Arguments
 
--- what an act asks for, or why it does not fit the program; no schedule here has one of the last two
+-- a server that stops at a message has no record of it, or has one, and sent so many of the messages that come of it
+abbrev pub kept_record : Option ℕ → Kept
+kept_record None = Lost
+kept_record (Some many) = Sent many
+
+abbrev pub stop_during : Option (ℕ × Option ℕ) → Option (ℕ × Kept)
+stop_during None = None
+stop_during (Some (message, many)) = Some (message, kept_record many)
+
+-- what an act asks for, or why it does not fit the program; no schedule here drains a coordinator
 abbrev pub wanted_by : Workload → Act → Result Wanted What
 wanted_by program (act.Submit coord name args) = submission_of program coord args (procedure_named program name)
 wanted_by program (act.Deliver message) = Ok (wanted.Event (event.Deliver message))
 wanted_by program (act.Any place) = Ok (wanted.Any place)
 wanted_by program (act.Tick node) = Ok (wanted.Event (event.Tick node))
-wanted_by program (act.Stop shard during) = Err what.Word
+wanted_by program (act.Stop shard during) = Ok (wanted.Event (event.Stop shard (stop_during during)))
 wanted_by program (act.Drain coord) = Err what.Word
 
 abbrev pub numbered : ℕ → Result Wanted What → Result BoundLine What
@@ -54,7 +71,7 @@ asked_by program line = numbered line.number (wanted_by program line.act)
 -- the bytes are a schedule whose lines ask for these, and fit the program
 pub record IsScheduleOf (program : Workload) (text : List ℕ) (asked : List BoundLine) : Type 0 where
   pub lines : List Line
-  pub schedule : IsSchedule plain_forms program.shards text lines
+  pub schedule : IsSchedule played_forms program.shards text lines
   pub asks : each (λ line. item_of (asked_by program line)) lines ≡ Some asked
 
 -- the bytes are a schedule, and its first line that does not fit the program has this number and fault
@@ -62,7 +79,7 @@ pub record IsUnfit (program : Workload) (text : List ℕ) (number : ℕ) (fault 
   pub before : List Line
   pub line : Line
   pub behind : List Line
-  pub schedule : IsSchedule plain_forms program.shards text (before ++ line ∷ behind)
+  pub schedule : IsSchedule played_forms program.shards text (before ++ line ∷ behind)
   pub fit : AllByRecursion (λ l. fault_of (asked_by program l) ≡ None) before
   pub numbered : line.number ≡ number
   pub is : asked_by program line ≡ Err fault
@@ -72,10 +89,15 @@ abbrev pub IsNodeIn : Workload → Node → Type 0
 IsNodeIn program (Server shard) = shard.0 < program.shards
 IsNodeIn program (Coord number) = number < coordinators
 
+abbrev pub IsStopOf : Option (ℕ × Kept) → Type 0
+IsStopOf None = Unit {0}
+IsStopOf (Some (message, kept)) = IsMessageNumber message
+
 abbrev pub FitsProgram : Workload → Event → Type 0
 FitsProgram program (event.Submit coord proc args) = (coord < coordinators) × (proc < length program.procedures) × (length args ≡ arguments_of program proc)
-FitsProgram program (event.Deliver message) = (0 < message) × (message < 2 ^ 32)
+FitsProgram program (event.Deliver message) = IsMessageNumber message
 FitsProgram program (event.Tick node) = IsNodeIn program node
+FitsProgram program (event.Stop shard during) = (shard.0 < program.shards) × IsStopOf during
 
 abbrev pub WantedFits : Workload → Wanted → Type 0
 WantedFits program (wanted.Event e) = FitsProgram program e
@@ -92,3 +114,17 @@ chosen place (k ∷ ks) = Some (event.Deliver (slice_index_or (k ∷ ks) (place 
 abbrev pub event_in : World → Wanted → Option Event
 event_in w (wanted.Event e) = Some e
 event_in w (wanted.Any place) = chosen place w.undelivered
+
+-- ---- which messages are there
+
+-- what an event needs of the messages of a world: that the one which is delivered was sent, and that the one at which a server stops was sent to it
+abbrev pub HasItsMessage : World → Event → Type 0
+HasItsMessage w (event.Deliver message) = message ≤ length w.sent
+HasItsMessage w (event.Stop shard during) = IsSentIn w shard.0 during
+HasItsMessage w (event.Submit coord proc args) = Unit {0}
+HasItsMessage w (event.Tick node) = Unit {0}
+
+-- what a line needs of them; a choice takes only what was sent
+abbrev pub AsksForSent : World → Wanted → Type 0
+AsksForSent w (wanted.Event e) = HasItsMessage w e
+AsksForSent w (wanted.Any place) = Unit {0}

@@ -1,5 +1,5 @@
 -- How a replay ends, and what the sink took: docs/FORMATS.md, "Report"
-use Rattle.std.specs.Prelude.{◌≡◌, ℕ, ℤ, ◌<◌, Bool, true, false, List, [], ◌∷◌, ◌++◌, Option, length}
+use Rattle.std.specs.Prelude.{◌≡◌, ℕ, ℤ, Bool, true, false, List, [], ◌∷◌, ◌++◌, Option}
 use Rattle.std.specs.List.{AllByRecursion}
 use Rattle.roc_sequence.specs.Lists.{Has}
 use Rattle.roc_base.specs.declared.id.TxnId.{TxnId}
@@ -8,21 +8,18 @@ use Rattle.roc_plan.specs.Groups.{Plan}
 use Rattle.roc_views.specs.World.{World}
 use Rattle.roc_views.specs.Quiet.{IsQuiet, IsInLastRound}
 use Rattle.roc_views.specs.Run.{Stepped}
-use Rattle.roc_protocol.specs.declared.event.Event.TheVariants as event
 use Rattle.roc_sched.specs.declared.fault.What.{What}
 use Rattle.roc_sched.specs.declared.fault.What.TheVariants as what
-use Rattle.roc_sched.specs.Forms.{plain_forms}
 use Rattle.roc_sched.specs.Schedule.{IsScheduleFault}
 use Rattle.roc_report.specs.Line.{Line, Submit, Answer, End}
 use Rattle.roc_report.specs.ReportLine.{IsReportLine}
 use Rattle.roc_report.specs.Text.{lines_text}
 use Rattle.roc_replay.specs.declared.asked.BoundLine.{BoundLine}
-use Rattle.roc_replay.specs.declared.asked.Wanted.TheVariants as wanted
 use Rattle.roc_replay.specs.declared.ended.Ended.{Ended}
 use Rattle.roc_replay.specs.declared.ended.Ended.TheVariants.{Done, Text, SinkFault, NoMemory}
 use Rattle.roc_replay.specs.declared.ended.Summary.{Summary}
 use Rattle.roc_replay.specs.Report.{steps_lines, closing_lines, end_line, busy_in, report}
-use Rattle.roc_replay.specs.BoundLine.{IsScheduleOf, IsUnfit, event_in}
+use Rattle.roc_replay.specs.BoundLine.{played_forms, IsScheduleOf, IsUnfit, event_in, AsksForSent}
 use Rattle.roc_replay.specs.Readback.{IsExplained}
 use Rattle.roc_replay.specs.Played.{IsPlayed, IsPlayedLine}
 
@@ -86,25 +83,24 @@ pub record IsReplayed (plan : Plan) (schedule : List ℕ) (summary : Summary) (o
   pub end : end_line run.world ≡ End summary.answered summary.pending summary.messages
   pub busy : summary.busy ≡ busy_in lines
 
--- the line of this number is the first that asks for a message that was not sent yet, and the sink took the lines of what was before it
+-- the line of this number is the first that asks for a message that was not sent yet, or not to the server that is to stop at it, and the sink took
+-- the lines of what was before it
 pub record IsUnsent (plan : Plan) (schedule : List ℕ) (number : ℕ) (old new : Option (List ℕ)) : Type 0 where
   pub before : List BoundLine
   pub line : BoundLine
   pub behind : List BoundLine
   pub of_schedule : IsScheduleOf plan.program schedule (before ++ line ∷ behind)
   pub numbered : line.number ≡ number
-  pub message : ℕ
-  pub asks : line.wanted ≡ wanted.Event (event.Deliver message)
   pub steps : List Stepped
   pub world : World
   pub played : IsPlayed plan before steps world
-  pub unsent : length world.sent < message
+  pub unsent : ¬ AsksForSent world line.wanted
   pub taken : Adds old new (lines_text plan.program (steps_lines [] steps))
 
 -- what is wrong with the text, and what the sink took: the bytes are no schedule, or a line does not fit the program, and the sink took
--- nothing; or a line asks for a message that was not sent yet
+-- nothing; or a line asks for a message that is not there
 pub data IsTextFault (plan : Plan) (schedule : List ℕ) (number : ℕ) (fault : What) (old new : Option (List ℕ)) : Type 0 where
-  no_schedule : IsScheduleFault plain_forms plan.program.shards schedule number fault → new ≡ old → IsTextFault plan schedule number fault old new
+  no_schedule : IsScheduleFault played_forms plan.program.shards schedule number fault → new ≡ old → IsTextFault plan schedule number fault old new
   unfit : IsUnfit plan.program schedule number fault → new ≡ old → IsTextFault plan schedule number fault old new
   unsent : fault ≡ what.Message → IsUnsent plan schedule number old new → IsTextFault plan schedule number fault old new
 

@@ -1,16 +1,14 @@
 -- A schedule that is played: docs/FORMATS.md, "Schedule", and docs/PROTOCOL.md, "World"
-use Rattle.std.specs.Prelude.{◌≡◌, ℕ, ◌≤◌, List, [], ◌∷◌, ◌++◌, length, Option}
+use Rattle.std.specs.Prelude.{◌≡◌, ℕ, List, [], ◌∷◌, ◌++◌, Option}
 use Rattle.roc_plan.specs.Groups.{Plan}
 use Rattle.roc_views.specs.World.{World, first_world}
 use Rattle.roc_views.specs.Happens.{Outcome}
 use Rattle.roc_views.specs.Run.{Stepped, Transition}
 use Rattle.roc_protocol.specs.declared.event.Event.{Event}
-use Rattle.roc_protocol.specs.declared.event.Event.TheVariants as event
 use Rattle.roc_report.specs.ReportLine.{HaveSmallNumbers}
 use Rattle.roc_report.specs.Text.{lines_text}
 use Rattle.roc_replay.specs.declared.asked.BoundLine.{BoundLine}
-use Rattle.roc_replay.specs.declared.asked.Wanted.TheVariants as wanted
-use Rattle.roc_replay.specs.BoundLine.{coordinators, event_in}
+use Rattle.roc_replay.specs.BoundLine.{coordinators, event_in, AsksForSent}
 use Rattle.roc_replay.specs.Report.{first_lines, step_lines, busy_in}
 
 -- the lines were played, one after another from the first world on: each has a step, of the event that it asks for in the world before it,
@@ -20,11 +18,11 @@ pub data IsPlayed (plan : Plan) : List BoundLine → List Stepped → World → 
   goes_on : {lines : List BoundLine} {steps : List Stepped} {w : World} (line : BoundLine) (o : Outcome) → IsPlayed plan lines steps w → Transition plan w (event_in w line.wanted) o
       → IsPlayed plan (lines ++ line ∷ []) (steps ++ (record { event = event_in w line.wanted; outcome = o }) ∷ []) o.world
 
--- each message that a line asks to deliver was sent, in the world to which the lines before it lead
-pub record DeliversOnlySent (plan : Plan) (lines : List BoundLine) : Type 0 where
+-- each message that a line names was sent, to the server that is to stop at it where one is, in the world to which the lines before it lead
+pub record AsksOnlySent (plan : Plan) (lines : List BoundLine) : Type 0 where
   pub each :
-      (before : List BoundLine) (line : BoundLine) (behind : List BoundLine) (steps : List Stepped) (w : World) (message : ℕ) → lines ≡ before ++ line ∷ behind
-      → IsPlayed plan before steps w → line.wanted ≡ wanted.Event (event.Deliver message) → message ≤ length w.sent
+      (before : List BoundLine) (line : BoundLine) (behind : List BoundLine) (steps : List Stepped) (w : World) → lines ≡ before ++ line ∷ behind
+      → IsPlayed plan before steps w → AsksForSent w line.wanted
 
 -- one line was played: its event, or none, led from the world before to the world after, and this is the text of its lines, whose numbers have
 -- at most 64 bits, and so many of which say that a submission was refused as busy

@@ -1,8 +1,11 @@
 -- What a report's own lines tell: docs/FORMATS.md, "Report", and docs/PROTOCOL.md, "Serial witness"
-use Rattle.std.specs.Prelude.{◌≡◌, ◌≢◌, ◌↔◌, ℕ, ℤ, pos, false, List, [], ◌∷◌, ◌++◌, Some}
+use Rattle.std.specs.Prelude.{◌≡◌, ◌≢◌, ◌↔◌, ℕ, ℤ, pos, false, List, [], ◌∷◌, ◌++◌, Option, Some}
 use Rattle.std.specs.List.{flat_map}
 use Rattle.roc_sequence.specs.Lists.{Has}
 use Rattle.roc_base.specs.declared.id.TxnId.{TxnId}
+use Rattle.roc_base.specs.declared.node.Node.{Node}
+use Rattle.roc_base.specs.declared.node.Node.TheVariants.{Server}
+use Rattle.roc_base.specs.declared.node.Shard.{Shard}
 use Rattle.roc_base.specs.Edge.{Dependency}
 use Rattle.roc_msg.specs.declared.reason.Reason.{Reason}
 use Rattle.roc_msg.specs.declared.reason.Reason.TheVariants.{Stale}
@@ -16,7 +19,7 @@ use Rattle.roc_audit.specs.declared.entry.Entry.{Entry}
 use Rattle.roc_audit.specs.declared.entry.Entry.TheVariants.{Submitted, Answered}
 use Rattle.roc_audit.specs.History.{IsToldOnce}
 use Rattle.roc_audit.specs.Witness.{submitted_calls, IsSerialWitness}
-use Rattle.roc_report.specs.Line.{Line, ShownMessage, id_shown, StartOk, Submit, Deliver, Ignored, Send, Answer, Order, Row, Pending}
+use Rattle.roc_report.specs.Line.{Line, ShownMessage, id_shown, StartOk, Submit, Deliver, Stopped, Ignored, Send, Answer, Order, Row, Pending}
 
 -- what a line tells of the history: a submission or an answer
 abbrev pub entries_in : Line → List Entry
@@ -65,11 +68,19 @@ pub record IsShownBefore (lines : List Line) (u t : TxnId) : Type 0 where
   pub listed : Has entry message.edges
   pub from : entry.from ≡ u
 
--- the lines show that every message that they show of t, or of one from which a chain of these leads to t, was delivered
+-- the lines show a delivery of the message, and behind it no stop of the server to which it goes
+pub record ShowsDelivery (lines : List Line) (number : ℕ) (to : Node) : Type 0 where
+  pub front : List Line
+  pub behind : List Line
+  pub is : lines ≡ front ++ Deliver number ∷ behind
+  pub since : (shard : Shard) (during : Option (ℕ × Option ℕ)) → Has (Stopped shard during) behind → to ≢ Server shard
+
+-- the lines show that every message that they show of t, or of one from which a chain of these leads to t, was delivered, and that its receiver did
+-- not stop behind it
 pub record LooksQuiet (lines : List Line) (t : TxnId) : Type 0 where
   pub each :
       (number : ℕ) (message : ShownMessage) (u : TxnId) → Has (Send number message) lines → id_shown message ≡ Some u → ReachesOrIs (IsShownBefore lines) u t
-      → Has (Deliver number) lines
+      → ShowsDelivery lines number message.to
 
 -- ---- ignored messages
 

@@ -5,6 +5,8 @@ use Rattle.roc_audit.specs.declared.entry.Entry.{Entry}
 use Rattle.roc_audit.specs.declared.entry.Entry.TheVariants as entry
 use Rattle.roc_protocol.specs.declared.event.Event.{Event}
 use Rattle.roc_protocol.specs.declared.event.Event.TheVariants as event
+use Rattle.roc_protocol.specs.declared.event.Kept.{Kept}
+use Rattle.roc_protocol.specs.declared.event.Kept.TheVariants.{Lost, Sent}
 use Rattle.roc_protocol.specs.declared.event.Seen.{Seen}
 use Rattle.roc_protocol.specs.declared.event.Seen.TheVariants as seen
 use Rattle.roc_views.specs.World.{World}
@@ -12,7 +14,7 @@ use Rattle.roc_views.specs.Run.{Stepped}
 use Rattle.roc_views.specs.Witness.{witness_of}
 use Rattle.roc_world.specs.Reads.{cells_of, unanswered_of}
 use Rattle.roc_report.specs.Shown.{shown_message}
-use Rattle.roc_report.specs.Line.{Line, Submit, Busy, Spent, Deliver, Nothing, Tick, Gone, Ignored, Send, Answer, Order, Row, Pending, End}
+use Rattle.roc_report.specs.Line.{Line, Submit, Busy, Spent, Deliver, Nothing, Tick, Stopped, Gone, Ignored, Send, Answer, Order, Row, Pending, End}
 use Rattle.roc_replay.specs.Cells.{by_cell}
 
 -- ---- an event
@@ -37,12 +39,19 @@ untaken_lines seen.Busy = []
 untaken_lines seen.Done = []
 untaken_lines (seen.Answered id reply) = []
 
+-- the message at which a server stops, and how many of those that come of it were sent, where its record was kept
+abbrev pub during_shown : Option (ℕ × Kept) → Option (ℕ × Option ℕ)
+during_shown None = None
+during_shown (Some (number, Lost)) = Some (number, None)
+during_shown (Some (number, Sent many)) = Some (number, Some many)
+
 -- what happened, and what became of it; no event is a choice that found nothing
 abbrev pub first_lines : Option Event → Seen → List Line
 first_lines None seen = Nothing ∷ []
 first_lines (Some (event.Submit coord proc args)) seen = submission_lines coord proc args seen
 first_lines (Some (event.Deliver number)) seen = Deliver number ∷ untaken_lines seen
 first_lines (Some (event.Tick node)) seen = Tick node ∷ []
+first_lines (Some (event.Stop shard during)) seen = Stopped shard (during_shown during) ∷ []
 
 -- the messages that were sent, the first of them with this number
 abbrev pub send_lines : ℕ → List Envelope → List Line

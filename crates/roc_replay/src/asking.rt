@@ -4,7 +4,7 @@ ghost use Rattle.std.specs.List.{AllByRecursion};
 ghost use Rattle.roc_program.specs.LookUps.{procedure_named};
 ghost use Rattle.roc_sched.specs.Each.{each};
 ghost use Rattle.roc_sched.specs.Schedule.{item_of};
-ghost use Rattle.roc_replay.specs.BoundLine.{submission_of, wanted_by, asked_by, IsScheduleOf, WantedFits};
+ghost use Rattle.roc_replay.specs.BoundLine.{played_forms, kept_record, stop_during, submission_of, wanted_by, asked_by, IsScheduleOf, WantedFits};
 ghost use Rattle.roc_replay.specs.Inner.Reading.{GivesAtLine, IsUnfitBy, IsBlamed};
 
 use crate::{BoundLine, Wanted};
@@ -13,8 +13,18 @@ use roc_plan::Plan;
 use roc_sched::laws::lines_fit;
 use roc_sched::{Act, Forms, Line, TextFault, What, parse_schedule};
 use roc_sequence::Sequence;
-use roc_world::Event;
+use roc_world::{Event, Kept};
 use std::alloc::Global;
+
+// The forms of lines that are played: those of any schedule, and stops of servers.
+fn played_forms() -> Forms
+    ensures { result ≡ played_forms }
+{
+    Forms {
+        stops: true,
+        coords: None,
+    }
+}
 
 // A submission of the procedure of this name, with its count of arguments, on the line of a number.
 fn submission_of(
@@ -45,6 +55,26 @@ fn submission_of(
     }
 }
 
+// What is kept of a message at which a server stops: its record and so many of the messages that come of it, or nothing.
+fn kept_record(many: Option<u32>) -> Kept
+    ensures { result ≡ kept_record many }
+{
+    match many {
+        Some(many) => Kept::Sent(many),
+        None => Kept::Lost,
+    }
+}
+
+// The message at which a server stops, and what is kept of it.
+fn stop_during(during: &Option<(u64, Option<u32>)>) -> Option<(u64, Kept)>
+    ensures { result ≡ stop_during during.now }
+{
+    match during {
+        Some((message, many)) => Some((*message, kept_record(*many))),
+        None => None,
+    }
+}
+
 // What an act asks for, on the line of a number.
 fn wanted_by(plan: &Plan, line: u32, act: &Act) -> Result<Wanted, TextFault>
     ensures { GivesAtLine line result (wanted_by plan.now.program act.now) }
@@ -56,7 +86,11 @@ fn wanted_by(plan: &Plan, line: u32, act: &Act) -> Result<Wanted, TextFault>
         Act::Deliver(message) => Ok(Wanted::Event(Event::Deliver(*message))),
         Act::Any(place) => Ok(Wanted::Any(*place)),
         Act::Tick(node) => Ok(Wanted::Event(Event::Tick(*node))),
-        Act::Stop { .. } | Act::Drain(_) => Err(TextFault::At {
+        Act::Stop { shard, during } => Ok(Wanted::Event(Event::Stop {
+            shard: *shard,
+            during: stop_during(during),
+        })),
+        Act::Drain(_) => Err(TextFault::At {
             line,
             what: What::Word,
         }),
@@ -102,7 +136,7 @@ pub fn parse_asked(
     ensures fault { IfErr result (IsBlamed plan.now.program text.now) }
 {
     lines_fit();
-    let lines = match parse_schedule(alloc, text, plan.workload().shards(), Forms::plain()) {
+    let lines = match parse_schedule(alloc, text, plan.workload().shards(), played_forms()) {
         Ok(lines) => lines,
         Err(fault) => return Err(fault),
     };

@@ -12,7 +12,7 @@ ghost use Rattle.roc_replay.specs.declared.asked.BoundLine.{BoundLine};
 ghost use Rattle.roc_replay.specs.declared.ended.Summary.{Summary};
 ghost use Rattle.roc_replay.specs.BoundLine.{IsScheduleOf, coordinators};
 ghost use Rattle.roc_replay.specs.Ended.{AnswersWhatIsQuiet, IsReplayed, IsTextFault};
-ghost use Rattle.roc_replay.specs.Played.{IsPlayed, DeliversOnlySent};
+ghost use Rattle.roc_replay.specs.Played.{IsPlayed, AsksOnlySent};
 ghost use Rattle.roc_replay.specs.Report.{report};
 ghost use Rattle.roc_replay.specs.Readback.{IsExplained};
 
@@ -27,8 +27,8 @@ use roc_views::worlds::{events_have_outcomes, step_is_one};
 
 /// The report of every run of an accepted plan explains itself: its one `order` line is a serial witness of the history
 /// that its own `submit` and `answer` lines show, of transactions and views, and it shows an answer for each submitted transaction of which, and of
-/// whose ancestors, it shows every message as delivered. Where it has no `pending` line, its `row` lines are exactly the cells that are
-/// not 0 in that serial order, each with its number. No two `submit` lines have one id, an id has at most one `answer` line, behind its
+/// whose ancestors, it shows every message as delivered, where it goes to a server behind the last stop of this. Where it has no `pending`
+/// line, its `row` lines are exactly the cells that are not 0 in that serial order, each with its number. No two `submit` lines have one id, an id has at most one `answer` line, behind its
 /// `submit` line, and each `ignored` line says `stale`, directly behind a `deliver` line. And it shows an answer for each submitted transaction or
 /// view that is quiet in the run, but for a view in its last round: the lines do not tell which groups a view waits for.
 pub fn report_explains_itself()
@@ -83,11 +83,11 @@ pub fn report_is_one()
     lines_are_unique();
 }
 
-/// A schedule of a plan can be played exactly where it delivers only what was sent. A plan has some shard.
+/// A schedule of a plan can be played exactly where it asks only for what was sent. A plan has some shard.
 pub fn sent_schedules_are_played()
-    ensures played { (plan : Plan) (schedule : List ℕ) (lines : List BoundLine) → 0 < plan.program.shards → IsScheduleOf plan.program schedule lines → DeliversOnlySent plan lines
+    ensures played { (plan : Plan) (schedule : List ℕ) (lines : List BoundLine) → 0 < plan.program.shards → IsScheduleOf plan.program schedule lines → AsksOnlySent plan lines
         → (steps : List Stepped) × (w : World) × IsPlayed plan lines steps w }
-    ensures sent { (plan : Plan) (lines : List BoundLine) (steps : List Stepped) (w : World) → IsPlayed plan lines steps w → DeliversOnlySent plan lines }
+    ensures sent { (plan : Plan) (lines : List BoundLine) (steps : List Stepped) (w : World) → IsPlayed plan lines steps w → AsksOnlySent plan lines }
 {
     events_have_outcomes();
     worlds_fit();
@@ -95,10 +95,10 @@ pub fn sent_schedules_are_played()
     report_is_one();
 }
 
-/// Nothing is wrong with the text of a schedule that delivers only what was sent: it is one, each of its lines fits the plan, and none asks
+/// Nothing is wrong with the text of a schedule that asks only for what was sent: it is one, each of its lines fits the plan, and none asks
 /// for a message that was not sent yet.
 pub fn sent_schedules_have_no_fault()
-    ensures { (plan : Plan) (schedule : List ℕ) (lines : List BoundLine) → IsScheduleOf plan.program schedule lines → DeliversOnlySent plan lines
+    ensures { (plan : Plan) (schedule : List ℕ) (lines : List BoundLine) → IsScheduleOf plan.program schedule lines → AsksOnlySent plan lines
         → (number : ℕ) (fault : What) (old new : Option (List ℕ)) → IsTextFault plan schedule number fault old new → ⊥ }
 {
     lines_are_unique();

@@ -12,12 +12,12 @@
 //! `pending`, the `row` lines are the cells that the serial order leaves; each id is submitted once and answered at
 //! most once, and only stale messages are ignored. Of any other end the layers above may rely on its cause, and on what
 //! the sink took: nothing, or the text of whole lines of the schedule, and if a write failed a front of the text that
-//! was due behind it. A schedule that delivers only what was sent is played whole if no failure is counted and memory
+//! was due behind it. A schedule that asks only for what was sent is played whole if no failure is counted and memory
 //! suffices.
 //!
 //! By [`laws`] the report of every run of an accepted plan explains itself, whoever reads the text of a replay's report
 //! as lines of a report reads its lines, what is played is a run, schedules with the same lines have one report, and a
-//! schedule can be played exactly if it delivers only what was sent. `specs/Inner/` is of this crate alone.
+//! schedule can be played exactly if it asks only for what was sent. `specs/Inner/` is of this crate alone.
 #![tactic(auto)]
 
 mod asked;

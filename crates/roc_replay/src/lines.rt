@@ -3,13 +3,13 @@ ghost use Rattle.std.specs.Prelude.{◌≡◌, ◌+◌, ◌^◌, ◌<◌, ◌≤
 ghost use Rattle.roc_report.specs.Line as line;
 ghost use Rattle.roc_report.specs.ReportLine.{HaveSmallNumbers};
 ghost use Rattle.roc_report.specs.Text.{lines_text};
-ghost use Rattle.roc_replay.specs.Report.{first_lines, untaken_lines, send_lines, answer_lines};
+ghost use Rattle.roc_replay.specs.Report.{during_shown, first_lines, untaken_lines, send_lines, answer_lines};
 
 use roc_base::NoMemory;
 use roc_msg::Envelope;
 use roc_program::Workload;
 use roc_report::{ReportLine, append};
-use roc_world::{Event, Seen};
+use roc_world::{Event, Kept, Seen};
 use std::alloc::Global;
 
 /// The text of the lines of an event: what happened, the messages that were sent, which are those
@@ -82,6 +82,23 @@ fn push_first(
             push_untaken(alloc, text, workload, seen)
         }
         Event::Tick(node) => append(alloc, text, workload, &ReportLine::Tick(*node)),
+        Event::Stop { shard, during } => append(
+            alloc,
+            text,
+            workload,
+            &ReportLine::Stopped(*shard, during_shown(during)),
+        ),
+    }
+}
+
+// The message at which a server stopped, and how many of those that come of it were sent, where its record was kept.
+fn during_shown(during: &Option<(u64, Kept)>) -> Option<(u64, Option<u32>)>
+    ensures { result ≡ during_shown during.now }
+{
+    match during {
+        None => None,
+        Some((number, Kept::Lost)) => Some((*number, None)),
+        Some((number, Kept::Sent(many))) => Some((*number, Some(*many))),
     }
 }
 

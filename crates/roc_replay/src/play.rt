@@ -6,7 +6,7 @@ ghost use Rattle.roc_views.specs.Fits.{FitsWorld};
 ghost use Rattle.roc_views.specs.World.{first_world};
 ghost use Rattle.roc_views.specs.Run.{IsEventOf};
 ghost use Rattle.roc_replay.specs.BoundLine.{IsScheduleOf, WantedFits, coordinators, chosen, event_in};
-ghost use Rattle.roc_replay.specs.Inner.Closed.{IsClosed, asks_unsent, wants_unsent};
+ghost use Rattle.roc_replay.specs.Inner.Closed.{IsClosed, is_sent_to, asks_unsent, wants_unsent};
 ghost use Rattle.roc_replay.specs.Ended.{is_sink_fault};
 ghost use Rattle.roc_replay.specs.Inner.Ends.{IsEnd};
 ghost use Rattle.roc_replay.specs.Played.{IsPlayedLine};
@@ -16,8 +16,9 @@ use crate::closing::last_lines;
 use crate::laws::{lines_name_parts, report_explains_itself};
 use crate::lines::{event_text, nothing_text};
 use crate::{BoundLine, Ended, Wanted};
-use roc_base::NoMemory;
+use roc_base::{NoMemory, Node, Shard};
 use roc_io::{Sink, Written};
+use roc_msg::Envelope;
 use roc_plan::Plan;
 use roc_program::Workload;
 use roc_sched::What;
@@ -58,7 +59,7 @@ fn play_lines<S: Sink>(
     lines_name_parts();
     let mut busy = 0;
     for line in lines {
-        if is_unsent(&line.wanted, world.sent().len()) {
+        if is_unsent(&line.wanted, world.sent()) {
             return Ended::Text {
                 line: line.number,
                 what: What::Message,
@@ -95,23 +96,43 @@ fn close<S: Sink>(
     }
 }
 
-// Whether a line asks for a message that was not sent, where so many were.
-fn is_unsent(wanted: &Wanted, sent: usize) -> bool
-    ensures { result ≡ wants_unsent wanted.now sent }
+// Whether a line asks for a message that is not there, where these were sent.
+fn is_unsent(wanted: &Wanted, sent: &[Envelope]) -> bool
+    ensures { result ≡ wants_unsent wanted.now sent.now }
 {
     match wanted {
-        Wanted::Event(event) => is_delivery_unsent(event, sent),
+        Wanted::Event(event) => asks_unsent(event, sent),
         Wanted::Any(_) => false,
     }
 }
 
-// Whether an event is the delivery of a message that was not sent, where so many were.
-fn is_delivery_unsent(event: &Event, sent: usize) -> bool
-    ensures { result ≡ asks_unsent event.now sent }
+// Whether an event is the delivery of a message that was not sent, or a stop at one that was not sent to the server.
+fn asks_unsent(event: &Event, sent: &[Envelope]) -> bool
+    ensures { result ≡ asks_unsent event.now sent.now }
 {
     match event {
-        Event::Deliver(number) => *number > sent as u64,
+        Event::Deliver(number) => *number > sent.len() as u64,
+        Event::Stop { shard, during } => match during {
+            Some((number, _)) => !is_sent_to(*shard, *number, sent),
+            None => false,
+        },
         Event::Submit { .. } | Event::Tick(_) => false,
+    }
+}
+
+// Whether the message of a number was sent to the server of a shard.
+fn is_sent_to(shard: Shard, number: u64, sent: &[Envelope]) -> bool
+    ensures { result ≡ is_sent_to shard number sent.now }
+{
+    if number == 0 {
+        return false;
+    }
+    match sent.get((number - 1) as usize) {
+        Some(message) => match message.to {
+            Node::Server(to) => to == shard,
+            Node::Coord(_) => false,
+        },
+        None => false,
     }
 }
 
@@ -132,7 +153,7 @@ fn play_line(
     requires world { FitsWorld plan.now world.old }
     requires coords { length world.old.coords ≡ coordinators }
     requires fits { WantedFits plan.now.program wanted.now }
-    requires sent { wants_unsent wanted.now (length world.old.sent) ≡ false }
+    requires sent { wants_unsent wanted.now world.old.sent ≡ false }
     ensures played { IfOk result (λ played. IsPlayedLine plan.now (event_in world.old wanted.now) world.old world.new played.text.items played.busy) }
     ensures fits { OnOk result (FitsWorld plan.now world.new) }
     ensures coords { OnOk result (length world.new.coords ≡ coordinators) }
@@ -205,6 +226,6 @@ fn busy_lines(event: &Event, seen: &Seen) -> u64
             Seen::Busy => 1,
             _ => 0,
         },
-        Event::Deliver(_) | Event::Tick(_) => 0,
+        Event::Deliver(_) | Event::Tick(_) | Event::Stop { .. } => 0,
     }
 }

@@ -4,7 +4,7 @@ ghost use Rattle.roc_io.specs.Cause.{HasCause, last_count};
 ghost use Rattle.roc_replay.specs.declared.asked.BoundLine.{BoundLine};
 ghost use Rattle.roc_replay.specs.BoundLine.{IsScheduleOf};
 ghost use Rattle.roc_replay.specs.Ended.{IfDone, IfText, OnSinkFault, OnNoMemory, IsWhole, is_sink_fault, IsReplayed, IsTextFault, IsCut, IsUnfinished};
-ghost use Rattle.roc_replay.specs.Played.{DeliversOnlySent};
+ghost use Rattle.roc_replay.specs.Played.{AsksOnlySent};
 
 use crate::Ended;
 use crate::asking::parse_asked;
@@ -23,7 +23,8 @@ pub fn replay<S: Sink>(alloc: Global, plan: &Plan, schedule: &[u8], sink: &mut S
     // themselves: its one `order` line is a serial witness of the history that its own `submit` and `answer` lines show.
     ensures done { IfDone result (λ summary. IsReplayed plan.now schedule.now summary (S.taken sink.old) (S.taken sink.new)) }
     // The text is blamed exactly as it deserves: at the first line that is none, else at the first that does not fit the plan, and
-    // nothing is written; else at the first that asks for a message that was not sent yet, and the lines before it are written.
+    // nothing is written; else at the first that asks for a message that was not sent yet, or not to the server that is to stop at it,
+    // and the lines before it are written.
     ensures text { IfText result (λ line fault. IsTextFault plan.now schedule.now line fault (S.taken sink.old) (S.taken sink.new)) }
     // The sink is blamed only where its count of failures rose, and no other end leaves that count risen.
     ensures sink { HasCause (is_sink_fault result) (S.faults sink.old) (S.faults sink.new) }
@@ -31,8 +32,8 @@ pub fn replay<S: Sink>(alloc: Global, plan: &Plan, schedule: &[u8], sink: &mut S
     ensures cut { OnSinkFault result (IsCut plan.now schedule.now (S.taken sink.old) (S.taken sink.new)) }
     // Where memory ran out, the sink took the text of the lines before, and of no line a part.
     ensures unfinished { OnNoMemory result (IsUnfinished plan.now schedule.now (S.taken sink.old) (S.taken sink.new)) }
-    // A schedule of the plan that delivers only what was sent is played whole, where no failure is counted and memory suffices.
-    ensures complete { (lines : List BoundLine) → IsScheduleOf plan.now.program schedule.now lines → DeliversOnlySent plan.now lines
+    // A schedule of the plan that asks only for what was sent is played whole, where no failure is counted and memory suffices.
+    ensures complete { (lines : List BoundLine) → IsScheduleOf plan.now.program schedule.now lines → AsksOnlySent plan.now lines
         → S.faults sink.new ≡ S.faults sink.old → S.faults sink.old < last_count → IsWhole result }
 {
     lines_are_unique();

@@ -1,9 +1,10 @@
 -- What an event leaves in the fields of a world is what the definitions say
-use Rattle.std.proofs.Common.{◌≡◌, ℕ, ℤ, true, zero, suc, ◌-◌, ◌<◌, ◌==◌, not, List, [], ◌∷◌, ◌++◌, Option, Some, None, Result, Ok, Err, length, map, filter, get_or, slice_get, slice_set, refl, sym, ap, subst, ◌∙◌}
+use Rattle.std.proofs.Common.{◌≡◌, ℕ, ℤ, true, zero, suc, ◌-◌, ◌<◌, ◌==◌, not, List, [], ◌∷◌, ◌++◌, Option, Some, None, Result, Ok, Err, length, map, take, filter, get_or, slice_get, slice_set, refl, sym, ap, subst, ◌∙◌, arith}
 use Rattle.std.proofs.lemmas.List.{append-nil, map-set}
 use Rattle.std.specs.Prelude.{Bool, false, if◌then◌else◌}
 use Rattle.std.specs.Option.{option_map}
 use Rattle.std.proofs.lemmas.Option.{slice_get-get_or, slice_get-map}
+use Rattle.roc_sequence.proofs.Members.{same_there}
 use Rattle.roc_base.specs.declared.id.TxnId.{TxnId}
 use Rattle.roc_base.specs.declared.node.Node.{Node}
 use Rattle.roc_base.specs.declared.node.Node.TheVariants.{Server, Coord}
@@ -15,6 +16,7 @@ use Rattle.roc_plan.specs.Groups.{Plan, is_view_of}
 use Rattle.roc_readonly.specs.Round.{first_round}
 use Rattle.roc_coord.specs.Submit as submit
 use Rattle.roc_step.specs.declared.handled.Handled.{Handled as ServerHandled}
+use Rattle.roc_step.specs.Restarts.{without_reads, cut_short, cut_reads}
 use Rattle.roc_step.specs.State.{answered, ServerState, Viewing}
 use Rattle.roc_step.specs.Step as server
 use Rattle.roc_coord.specs.declared.handled.Handled.{Handled as CoordHandled}
@@ -26,15 +28,19 @@ use Rattle.roc_coord.specs.Step.{after_message}
 use Rattle.roc_coord.specs.Submit.{refusal_of, refused_or_accepted, after_submit, UnlessNoMemory}
 use Rattle.roc_audit.specs.Order.{noted}
 use Rattle.roc_audit.specs.declared.entry.Entry.TheVariants as entry
-use Rattle.roc_protocol.specs.declared.event.Event.TheVariants.{Submit, Deliver, Tick}
+use Rattle.roc_protocol.specs.declared.event.Event.TheVariants.{Submit, Deliver, Tick, Stop}
+use Rattle.roc_protocol.specs.declared.event.Kept.TheVariants.{Lost, Sent}
 use Rattle.roc_protocol.specs.declared.event.Seen.{Seen}
 use Rattle.roc_protocol.specs.declared.event.Seen.TheVariants as seen
-use Rattle.roc_protocol.specs.Happens.{ran_at, server_seen, coord_seen, answer_entries}
+use Rattle.roc_protocol.specs.Happens.{ran_at, server_seen, coord_seen, answer_entries, IsSentTo}
+use Rattle.roc_protocol.proofs.Changed.{get-set_here}
+use Rattle.roc_protocol.proofs.Stopping.{take_none}
 use Rattle.roc_views.specs.World.{World, sends, looks_in, mark_delivered, at_server, at_coord, at_coord_tick}
-use Rattle.roc_views.specs.Happens.{Outcome, undecided, Submits, IsSubmissionOf, served, coordinated, IsReceived}
+use Rattle.roc_views.specs.Happens.{Outcome, undecided, Submits, IsSubmissionOf, served, coordinated, IsReceived, no_reads, at_rest, unrecorded, recorded, restarted}
+use Rattle.roc_views.proofs.Stops.{rest_is}
 use Rattle.roc_world.specs.Inner.Messages.{Messages}
-use Rattle.roc_world.specs.Inner.Nodes.{Idle, states_of, viewings_of, ServerTakes, CoordTakes, CoordSubmits, CoordTicks, ServerTicks}
-use Rattle.roc_world.specs.Inner.Parts.{Leads}
+use Rattle.roc_world.specs.Inner.Nodes.{Idle, states_of, viewings_of, ServerTakes, CoordTakes, CoordSubmits, CoordTicks, ServerTicks, ServerRestarts}
+use Rattle.roc_world.specs.Inner.Parts.{Leads, TakesCut, StartsAgain}
 
 -- what was read at a place is there
 pub read_there : {A : Type 0} (xs lent : List A) (i : ℕ) (x : A) → i < length xs → lent ≡ xs → x ≡ get_or lent i x → slice_get xs i ≡ Some x
@@ -45,6 +51,18 @@ set_there : {A : Type 0} (xs : List A) (i : ℕ) (x : A) → slice_get xs i ≡ 
 set_there [] i x e = absurd (cc)
 set_there (y ∷ ys) zero x e = let same : y ≡ x = cc in ap (λ z. z ∷ ys) (sym same)
 set_there (y ∷ ys) (suc i) x e = ap (λ zs. y ∷ zs) (set_there ys i x e)
+
+-- what is written twice at a place is there as it was written last
+set_twice : {A : Type 0} (xs : List A) (i : ℕ) (x y : A) → slice_set (slice_set xs i x) i y ≡ slice_set xs i y
+set_twice [] i x y = refl
+set_twice (z ∷ xs) zero x y = refl
+set_twice (z ∷ xs) (suc i) x y = ap (λ zs. z ∷ zs) (set_twice xs i x y)
+
+-- the first so many of two lists
+take_both : {A : Type 0} (n : ℕ) (xs ys : List A) → take n (xs ++ ys) ≡ take n xs ++ take (n - length xs) ys
+take_both n [] ys = let all : n ≡ n - 0 = omega arith in ap (λ k. take k ys) all ∙ ap (λ l. l ++ take (n - 0) ys) (sym (take_none n))
+take_both zero (x ∷ xs) ys = let none : 0 ≡ 0 - length (x ∷ xs) = omega arith in ap (λ k. take k ys) none
+take_both (suc n) (x ∷ xs) ys = let fewer : n - length xs ≡ suc n - suc (length xs) = omega arith in ap (λ l. x ∷ l) (take_both n xs ys) ∙ ap (λ k. x ∷ take n xs ++ take k ys) fewer
 
 -- one of the servers has another state, and keeps something else for views
 module _ (servers : List ServerState) (viewing : List Viewing) (olds news : List Idle) (was : servers ≡ states_of olds) (viewed : viewing ≡ viewings_of olds) (shard : ℕ) where
@@ -157,6 +175,96 @@ module _ (plan : Plan) (w : World) where
       λ i. record { seen = sees i; components = []; decided = []; ran = []; world = world_is i } in
       ([], [], [], (ticks.coord, ticks.there, is))
 
+  -- ---- a stop
+
+  -- a message came, and so many of the messages that come of it were sent
+  pub server_cut :
+      (k many : ℕ) (m : Envelope) (shard : Shard) → IsSentTo w.sent k shard.0 m → (olds news : List Idle) → w.servers ≡ states_of olds → w.viewing ≡ viewings_of olds
+      → (answer : ServerHandled) (noted_in : Messages) (before out : Collected) (after : World)
+      → before.messages ≡ [] → before.decided ≡ [] → ServerTakes plan shard.0 m.msg answer olds news before out
+      → noted_in ≡ record { sent = w.sent; undelivered = filter (λ n. not (n == k)) w.undelivered }
+      → after ≡ record (sends (record w { servers = states_of news; viewing = viewings_of news; sent = noted_in.sent; undelivered = noted_in.undelivered }) (Server shard) (take many out.messages)) { order = noted w.order out.decided }
+      → TakesCut plan w shard k many after
+  server_cut k many m shard sent olds news was viewed answer noted_in before out after none undecided_yet takes network_is after_is =
+      let r = takes.step in
+      let q = takes.reads in
+      let outs : take many out.messages ≡ take many r.sends ++ take (many - length r.sends) q.sends =
+      ap (take many) (takes.shows.sends ∙ ap (λ xs. xs ++ (r.sends ++ q.sends)) none) ∙ take_both many r.sends q.sends in
+      let ids : out.decided ≡ r.decided = takes.shows.decides ∙ ap (λ xs. xs ++ r.decided) undecided_yet in
+      let now : Idle = record { state = r.state; viewing = q.viewing } in
+      let states = states_set w.servers w.viewing olds news was viewed shard.0 now takes.others in
+      let views = viewings_set w.servers w.viewing olds news was viewed shard.0 now takes.others in
+      record {
+        message = m;
+        sent = sent;
+        state = takes.server.state;
+        there = state_there w.servers w.viewing olds news was viewed shard.0 takes.server takes.there;
+        viewing = takes.server.viewing;
+        keeps = viewing_there w.servers w.viewing olds news was viewed shard.0 takes.server takes.there;
+        step = r;
+        handles = takes.handles;
+        reads = q;
+        answers = takes.answers_reads;
+        is = after_is ∙ (λ i. record (sends (record w { servers = states i; viewing = views i; sent = (network_is i).sent; undelivered = (network_is i).undelivered }) (Server shard) (outs i)) { order = noted w.order (ids i) });
+      }
+
+  -- where no message comes
+  pub stops_at_rest : (shard : Shard) (what : Seen) (after : World) → what ≡ seen.Done → StartsAgain w shard after → Leads plan w (Stop shard None) what after
+  stops_at_rest shard what after sees a =
+      let r = answered a.state [] in
+      let q = no_reads a.viewing in
+      let world_is : after ≡ (restarted w shard.0 r q).world = a.is ∙ ap (λ (v : World). sends v (Server shard) (server.tick_sends a.state)) (sym (rest_is w shard.0 a.state a.viewing a.there)) in
+      let o : Outcome = record { seen = what; components = []; decided = []; ran = []; world = after } in
+      let is : o ≡ restarted w shard.0 r q = λ i. record { seen = sees i; components = []; decided = []; ran = []; world = world_is i } in
+      ([], [], [], record { state = a.state; there = a.there; viewing = a.viewing; keeps = a.keeps; before = w; step = r; reads = q; stops = at_rest; is = is })
+
+  -- where one comes of which no record is kept
+  pub stops_unrecorded : (shard : Shard) (k : ℕ) (m : Envelope) → IsSentTo w.sent k shard.0 m → (what : Seen) (noted_in : Messages) (after : World) → what ≡ seen.Done
+      → noted_in ≡ record { sent = w.sent; undelivered = filter (λ n. not (n == k)) w.undelivered } → StartsAgain (record w { sent = noted_in.sent; undelivered = noted_in.undelivered }) shard after
+      → Leads plan w (Stop shard (Some (k, Lost))) what after
+  stops_unrecorded shard k m sent what noted_in after sees network_is starts =
+      let a : StartsAgain (mark_delivered w k) shard after = subst (λ (n : Messages). StartsAgain (record w { sent = n.sent; undelivered = n.undelivered }) shard after) network_is starts in
+      let r = answered a.state [] in
+      let q = no_reads a.viewing in
+      let world_is : after ≡ (restarted (mark_delivered w k) shard.0 r q).world =
+      a.is ∙ ap (λ (v : World). sends v (Server shard) (server.tick_sends a.state)) (sym (rest_is (mark_delivered w k) shard.0 a.state a.viewing a.there)) in
+      let o : Outcome = record { seen = what; components = []; decided = []; ran = []; world = after } in
+      let is : o ≡ restarted (mark_delivered w k) shard.0 r q = λ i. record { seen = sees i; components = []; decided = []; ran = []; world = world_is i } in
+      ([], [], [], record { state = a.state; there = a.there; viewing = a.viewing; keeps = a.keeps; before = mark_delivered w k; step = r; reads = q; stops = unrecorded k m sent; is = is })
+
+  -- and where one comes that is recorded
+  pub stops_recorded : (shard : Shard) (k many : ℕ) (what : Seen) (middle after : World) → what ≡ seen.Done → TakesCut plan w shard k many middle → StartsAgain middle shard after
+      → Leads plan w (Stop shard (Some (k, Sent many))) what after
+  stops_recorded shard k many what middle after sees t starts =
+      let r = t.step in
+      let q = t.reads in
+      let v = at_server (mark_delivered w k) shard.0 (cut_short many r) (record { viewing = q.viewing; sends = (cut_reads many r q).sends }) in
+      let a : StartsAgain v shard after = subst (λ (v : World). StartsAgain v shard after) t.is starts in
+      let states : a.state ≡ r.state = same_there v.servers shard.0 a.state r.state a.there (get-set_here w.servers shard.0 t.state r.state t.there) in
+      let views : a.viewing ≡ q.viewing = same_there v.viewing shard.0 a.viewing q.viewing a.keeps (get-set_here w.viewing shard.0 t.viewing q.viewing t.keeps) in
+      let dropped : slice_set v.viewing shard.0 (without_reads a.viewing) ≡ slice_set w.viewing shard.0 (without_reads q.viewing) =
+      ap (λ (z : Viewing). slice_set v.viewing shard.0 (without_reads z)) views ∙ set_twice w.viewing shard.0 q.viewing (without_reads q.viewing) in
+      let world_is : after ≡ (restarted (mark_delivered w k) shard.0 (cut_short many r) (cut_reads many r q)).world =
+      a.is ∙ (λ i. sends (record v { viewing = dropped i }) (Server shard) (server.tick_sends (states i))) in
+      let ran = map (ran_at shard.0) r.ran in
+      let o : Outcome = record { seen = what; components = r.components; decided = r.decided; ran = ran; world = after } in
+      let is : o ≡ restarted (mark_delivered w k) shard.0 (cut_short many r) (cut_reads many r q) = λ i. record { seen = sees i; components = r.components; decided = r.decided; ran = ran; world = world_is i } in (
+        r.components,
+        r.decided,
+        ran,
+        record {
+          state = t.state;
+          there = t.there;
+          viewing = t.viewing;
+          keeps = t.keeps;
+          before = mark_delivered w k;
+          step = cut_short many r;
+          reads = cut_reads many r q;
+          stops = recorded k many t.message r q t.sent t.handles t.answers;
+          is = is;
+        },
+      )
+
   -- ---- a submission
 
   module _ (number proc : ℕ) (args : List ℤ) (coords : List CoordState) (before out : Collected) where
@@ -219,3 +327,26 @@ module _ (plan : Plan) (w : World) where
 
       pub busy_happens : why ≡ fault.Busy → Leads plan w (Submit number proc args) seen.Busy (record w { coords = coords })
       busy_happens is = busy (told fault.Busy is)
+
+-- a server starts again: its reads are dropped, and what a tick of it sends is sent
+pub starts_again :
+    (w : World) (olds between news : List Idle) → w.servers ≡ states_of olds → w.viewing ≡ viewings_of olds → (shard : Shard) (before out : Collected) (after : World)
+    → before.messages ≡ [] → ServerRestarts shard.0 olds between → ServerTicks shard.0 between news before out
+    → after ≡ sends (record w { servers = states_of news; viewing = viewings_of news }) (Server shard) out.messages → StartsAgain w shard after
+starts_again w olds between news was viewed shard before out after none restarts ticks after_is =
+    let s = restarts.server in
+    let now : Idle = record { state = s.state; viewing = without_reads s.viewing } in
+    let there : slice_get between shard.0 ≡ Some now = ap (λ l. slice_get l shard.0) restarts.others ∙ get-set_here olds shard.0 s now restarts.there in
+    let same : ticks.server ≡ now = same_there between shard.0 ticks.server now ticks.there there in
+    let others : news ≡ slice_set olds shard.0 now = ticks.others ∙ (set_there between shard.0 ticks.server ticks.there ∙ restarts.others) in
+    let stands = state_there w.servers w.viewing olds news was viewed shard.0 s restarts.there in
+    let states : states_of news ≡ w.servers = states_set w.servers w.viewing olds news was viewed shard.0 now others ∙ set_there w.servers shard.0 s.state stands in
+    let views = viewings_set w.servers w.viewing olds news was viewed shard.0 now others in
+    let outs : out.messages ≡ server.tick_sends s.state = ticks.sent.0 ∙ (ap (λ xs. xs ++ server.tick_sends ticks.server.state) none ∙ ap (λ (t : Idle). server.tick_sends t.state) same) in
+    record {
+      state = s.state;
+      there = stands;
+      viewing = s.viewing;
+      keeps = viewing_there w.servers w.viewing olds news was viewed shard.0 s restarts.there;
+      is = after_is ∙ (λ i. sends (record w { servers = states i; viewing = views i }) (Server shard) (outs i));
+    }

@@ -9,6 +9,7 @@ use Rattle.roc_msg.specs.Outbox.{Collected, HasSent}
 use Rattle.roc_plan.specs.Groups.{Plan}
 use Rattle.roc_step.specs.declared.handled.Handled.{Handled}
 use Rattle.roc_step.specs.Reads.{AnswersReads, ReadStep}
+use Rattle.roc_step.specs.Restarts.{without_reads}
 use Rattle.roc_step.specs.State.{ServerStep}
 use Rattle.roc_step.specs.Step.{Handles, Shows, tick_sends}
 use Rattle.roc_base.specs.declared.id.TxnId.{TxnId}
@@ -18,7 +19,7 @@ use Rattle.roc_coord.specs.declared.handled.SubmitFault.TheVariants as fault
 use Rattle.roc_coord.specs.State.{CoordState}
 use Rattle.roc_coord.specs.Step.{after_message, IsOutcome}
 use Rattle.roc_coord.specs.Submit.{after_submit, IsSubmitted, UnlessNoMemory}
-use Rattle.roc_world.specs.Inner.Nodes.{Idle, ServerTakes, CoordTakes, CoordSubmits, ServerTicks}
+use Rattle.roc_world.specs.Inner.Nodes.{Idle, ServerTakes, CoordTakes, CoordSubmits, ServerTicks, ServerRestarts}
 
 pub server_takes :
     (plan : Plan) (servers : List Idle) (shard : ℕ) (s after : Idle) (msg : Msg) (answer : Handled) (before out : Collected) → shard < length servers → s ≡ get_or servers shard s
@@ -40,6 +41,16 @@ pub server_ticks :
     (servers : List Idle) (shard : ℕ) (s after : Idle) (before out : Collected) → shard < length servers → s ≡ get_or servers shard s
     → HasSent before out (tick_sends s.state) → after ≡ s → ServerTicks shard servers (slice_set servers shard after) before out
 server_ticks servers shard s after before out within is sent same = record { server = s; there = slice_get-get_or servers shard s within ∙ ap Some (sym is); sent = sent; others = ap (slice_set servers shard) same }
+
+pub server_restarts :
+    (servers : List Idle) (shard : ℕ) (s after : Idle) → shard < length servers → s ≡ get_or servers shard s → after.state ≡ s.state → after.viewing ≡ without_reads s.viewing
+    → ServerRestarts shard servers (slice_set servers shard after)
+server_restarts servers shard s after within is state viewing =
+    record {
+      server = s;
+      there = slice_get-get_or servers shard s within ∙ ap Some (sym is);
+      others = λ i. slice_set servers shard (record { state = state i; viewing = viewing i });
+    }
 
 -- what holds of each server's part holds of that of one of them
 pub part_at : {A : Type 0} (P : A → Type 0) (part : Idle → A) (servers : List Idle) (shard : ℕ) (s : Idle) → AllByRecursion P (map part servers) → shard < length servers → s ≡ get_or servers shard s → P (part s)

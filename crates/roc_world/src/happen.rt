@@ -1,21 +1,24 @@
 //! What an event does, over the fields of a world.
-ghost use Rattle.std.specs.Prelude.{◌≡◌, ◌++◌, ◌∷◌, [], length, map, IfOk, OnOk};
+ghost use Rattle.std.specs.Prelude.{◌≡◌, ◌<◌, ◌≤◌, ◌++◌, ◌∷◌, [], Some, length, map, take, IfOk, OnOk};
 ghost use Rattle.roc_base.specs.declared.node.Node.TheVariants as node;
 ghost use Rattle.roc_audit.specs.declared.entry.Entry.TheVariants as entry;
 ghost use Rattle.roc_audit.specs.Order.{noted};
 ghost use Rattle.roc_protocol.specs.declared.event.Event.TheVariants as event;
+ghost use Rattle.roc_protocol.specs.declared.event.Kept.TheVariants as kept;
 ghost use Rattle.roc_protocol.specs.declared.event.Seen.TheVariants as seen;
 ghost use Rattle.roc_protocol.specs.Happens.{coord_seen, server_seen, answer_entries};
 ghost use Rattle.roc_views.specs.Fits.{FitsWorld};
-ghost use Rattle.roc_views.specs.Run.{IsEventOf};
+ghost use Rattle.roc_views.specs.Run.{IsEventOf, IsSentIn};
 ghost use Rattle.roc_views.specs.World.{sends, looks_in};
 ghost use Rattle.roc_world.specs.Inner.Looks.{looked};
-ghost use Rattle.roc_world.specs.Inner.Parts.{world_of, Leads};
+ghost use Rattle.roc_world.specs.Inner.Parts.{world_of, Leads, StartsAgain, TakesCut};
 
 use crate::looks::note_looks;
-use crate::nodes::{handle_at_coord, handle_at_server, submit_at, tick_coord, tick_server};
+use crate::nodes::{
+    handle_at_coord, handle_at_server, restart_at_server, submit_at, tick_coord, tick_server,
+};
 use crate::parts::Parts;
-use crate::{Event, Seen};
+use crate::{Event, Kept, Seen};
 use roc_audit::Entry;
 use roc_base::{NoMemory, Node, Nums, Shard, TxnId};
 use roc_coord::{Handled as CoordHandled, SubmitFault};
@@ -40,6 +43,7 @@ pub(crate) fn happen(
         Event::Submit { coord, proc, args } => submit(alloc, plan, parts, *coord, *proc, args),
         Event::Deliver(number) => deliver(alloc, plan, parts, *number),
         Event::Tick(node) => tick(alloc, plan, parts, *node),
+        Event::Stop { shard, during } => stop(alloc, plan, parts, *shard, during),
     }
 }
 
@@ -122,6 +126,88 @@ fn tick(alloc: Global, plan: &Plan, parts: &mut Parts, node: Node) -> Result<See
     }
 }
 
+// The server of a shard stops, at a message or at none, and starts again.
+fn stop(
+    alloc: Global,
+    plan: &Plan,
+    parts: &mut Parts,
+    shard: Shard,
+    during: &Option<(u64, Kept)>,
+) -> Result<Seen, NoMemory>
+    requires fits { FitsWorld plan.now (world_of parts.old) }
+    requires event { IsEventOf plan.now (world_of parts.old) (event.Stop shard during.now) }
+    ensures { IfOk result (λ seen. Leads plan.now (world_of parts.old) (event.Stop shard during.now) seen (world_of parts.new)) }
+{
+    match during {
+        None => start_again(alloc, parts, shard),
+        Some((number, kept)) => stop_at(alloc, plan, parts, shard, *number, kept),
+    }
+}
+
+// The server of a shard stops at a message, which comes to it, and starts again.
+fn stop_at(
+    alloc: Global,
+    plan: &Plan,
+    parts: &mut Parts,
+    shard: Shard,
+    number: u64,
+    kept: &Kept,
+) -> Result<Seen, NoMemory>
+    requires fits { FitsWorld plan.now (world_of parts.old) }
+    requires event { IsEventOf plan.now (world_of parts.old) (event.Stop shard (Some (number, kept.now))) }
+    ensures { IfOk result (λ seen. Leads plan.now (world_of parts.old) (event.Stop shard (Some (number, kept.now))) seen (world_of parts.new)) }
+{
+    match kept {
+        Kept::Lost => {
+            parts.network.note_delivery(number);
+            start_again(alloc, parts, shard)
+        }
+        Kept::Sent(many) => match take_cut(alloc, plan, parts, shard, number, *many) {
+            Ok(()) => start_again(alloc, parts, shard),
+            Err(fault) => Err(fault),
+        },
+    }
+}
+
+// A message comes to a server, and of what it sends the first so many go into the network.
+fn take_cut(
+    alloc: Global,
+    plan: &Plan,
+    parts: &mut Parts,
+    shard: Shard,
+    number: u64,
+    many: u32,
+) -> Result<(), NoMemory>
+    requires fits { FitsWorld plan.now (world_of parts.old) }
+    requires exists { shard.0 < length parts.old.servers.items }
+    requires number { (0 < number) × (number ≤ length (world_of parts.old).sent) }
+    requires there { IsSentIn (world_of parts.old) shard.0 (Some (number, kept.Sent many)) }
+    ensures { OnOk result (TakesCut plan.now (world_of parts.old) shard number many (world_of parts.new)) }
+{
+    let mut outbox = Outbox::new(alloc);
+    let message = &parts.network.sent()[(number - 1) as usize];
+    match handle_at_server(plan, &mut parts.servers, shard, &message.msg, &mut outbox) {
+        Ok(_) => {
+            parts.network.note_delivery(number);
+            note_cut(parts, shard, many, outbox)
+        }
+        Err(fault) => Err(fault),
+    }
+}
+
+// A server gives up the reads that it keeps, and ticks.
+fn start_again(alloc: Global, parts: &mut Parts, shard: Shard) -> Result<Seen, NoMemory>
+    requires exists { shard.0 < length parts.old.servers.items }
+    ensures { IfOk result (λ what. (what ≡ seen.Done) × StartsAgain (world_of parts.old) shard (world_of parts.new)) }
+{
+    let mut outbox = Outbox::new(alloc);
+    restart_at_server(&mut parts.servers, shard);
+    match tick_server(&mut parts.servers, shard, &mut outbox) {
+        Ok(()) => note_tick(parts, Node::Server(shard), outbox),
+        Err(fault) => Err(fault),
+    }
+}
+
 // What a coordinator sends goes into the network, and the round of a view that begins with it is noted.
 fn send_at_coord(parts: &mut Parts, coord: u16, outbox: Outbox) -> Result<(), NoMemory>
     ensures { OnOk result (world_of parts.new
@@ -183,6 +269,16 @@ fn note_at_server(
     parts.network.add(Node::Server(shard), messages)?;
     parts.order.note(&decided)?;
     Ok(server_seen(handled))
+}
+
+// The first so many messages that a server gives go into the network, and what it decides goes into the order.
+fn note_cut(parts: &mut Parts, shard: Shard, many: u32, outbox: Outbox) -> Result<(), NoMemory>
+    ensures { OnOk result (world_of parts.new ≡ record (sends (world_of parts.old) (node.Server shard) (take many outbox.messages)) { order = noted parts.old.order outbox.decided }) }
+{
+    let (mut messages, decided) = outbox.into_parts();
+    messages.truncate(many as usize);
+    parts.network.add(Node::Server(shard), messages)?;
+    parts.order.note(&decided)
 }
 
 // What a coordinator gives goes into the network and the history.

@@ -5,6 +5,7 @@ ghost use Rattle.roc_rows.specs.Store.{entries};
 ghost use Rattle.roc_step.specs.First.{first_server};
 ghost use Rattle.roc_step.specs.Fits.{AreReadsOf, ServerFits};
 ghost use Rattle.roc_step.specs.Reads.{first_viewing, AnswersReads, ReadStep};
+ghost use Rattle.roc_step.specs.Restarts.{without_reads};
 ghost use Rattle.roc_step.specs.State.{ServerStep};
 ghost use Rattle.roc_step.specs.Step.{Handles, Shows, tick_sends};
 
@@ -67,6 +68,14 @@ impl IdleServer {
         ensures same { self.new ≡ self.old }
     {
         self.server.tick(outbox)
+    }
+
+    // Gives up what it does not keep over a stop: the reads of views that wait.
+    pub(crate) fn restart(&mut self)
+        ensures state { self.new.state ≡ self.old.state }
+        ensures views { self.new.viewing ≡ without_reads self.old.viewing }
+    {
+        self.server.restart();
     }
 
     // The cells that are not 0, each with its number, by cell rising.

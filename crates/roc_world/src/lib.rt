@@ -18,5 +18,5 @@ mod reads;
 mod witness;
 mod world;
 
-pub use roc_protocol::{Event, Seen};
+pub use roc_protocol::{Event, Kept, Seen};
 pub use world::World;

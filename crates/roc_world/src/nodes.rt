@@ -7,7 +7,7 @@ ghost use Rattle.roc_step.specs.Reads.{first_viewing};
 ghost use Rattle.roc_coord.specs.State.{first_coord};
 ghost use Rattle.roc_coord.specs.Fits.{CoordFits};
 ghost use Rattle.roc_coord.specs.Submit.{UnlessNoMemory};
-ghost use Rattle.roc_world.specs.Inner.Nodes.{states_of, viewings_of, ServerTakes, CoordTakes, CoordSubmits, ServerTicks, CoordTicks};
+ghost use Rattle.roc_world.specs.Inner.Nodes.{states_of, viewings_of, ServerTakes, CoordTakes, CoordSubmits, ServerTicks, ServerRestarts, CoordTicks};
 
 use crate::idle_server::IdleServer;
 use roc_base::{NoMemory, Shard, TxnId};
@@ -109,6 +109,14 @@ pub(crate) fn tick_server(
         return Err(NoMemory);
     };
     Ok(())
+}
+
+/// The server of a shard starts again.
+pub(crate) fn restart_at_server(servers: &mut Vec<IdleServer>, shard: Shard)
+    requires exists { shard.0 < length servers.old.items }
+    ensures { ServerRestarts shard.0 servers.old.items servers.new.items }
+{
+    servers[shard.0 as usize].restart();
 }
 
 /// Time has passed for a coordinator.

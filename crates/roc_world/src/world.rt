@@ -71,7 +71,7 @@ impl World {
         })
     }
 
-    /// An event happens: one node takes a submission, a message of the network or a tick, and what it sends goes into the network.
+    /// An event happens: one node takes a submission, a message of the network or a tick, or a server stops and starts again, and what is sent goes into the network.
     /// `NoMemory` may leave a part of it done, so that the world is to be thrown away: nothing is promised of it.
     pub fn step(&mut self, plan: &Plan, event: &Event) -> Result<Seen, NoMemory>
         requires fits { FitsWorld plan.now self.old }

@@ -1,6 +1,10 @@
 -- What comes of the closing lines, and of a line that cannot be played
-use Rattle.std.specs.Prelude.{◌≡◌, ℕ, nat_lt, Bool, false, List, Option}
+use Rattle.std.specs.Prelude.{◌≡◌, ℕ, ◌-◌, nat_lt, ◌==◌, if◌then◌else◌, not, Bool, false, List, length, slice_get, Option, Some, None}
+use Rattle.roc_base.specs.declared.node.Node.TheVariants.{Server}
+use Rattle.roc_base.specs.declared.node.Shard.{Shard}
+use Rattle.roc_base.specs.Node.{is_node}
 use Rattle.roc_io.specs.Observed.{Adds, AddsFront}
+use Rattle.roc_msg.specs.declared.msg.Envelope.{Envelope}
 use Rattle.roc_program.specs.Program.{Workload}
 use Rattle.roc_views.specs.World.{World}
 use Rattle.roc_protocol.specs.declared.event.Event.{Event}
@@ -23,13 +27,24 @@ IsClosed program w busy SinkFault old new = AddsFront old new (lines_text progra
 IsClosed program w busy NoMemory old new = new ≡ old
 IsClosed program w busy (Text line what) old new = ⊥
 
--- the event is the delivery of a message that was not sent, where so many were
-abbrev pub asks_unsent : Event → ℕ → Bool
-asks_unsent (event.Deliver number) sent = nat_lt sent number
+-- a message, if any, goes to the server of a shard
+abbrev pub goes_to : Shard → Option Envelope → Bool
+goes_to shard None = false
+goes_to shard (Some message) = is_node message.to (Server shard)
+
+-- the message of this number, where these were sent, goes there
+abbrev pub is_sent_to : Shard → ℕ → List Envelope → Bool
+is_sent_to shard number sent = if number == 0 then false else goes_to shard (slice_get sent (number - 1))
+
+-- the event is the delivery of a message that is not among those that were sent, or a stop at one that was not sent to the server
+abbrev pub asks_unsent : Event → List Envelope → Bool
+asks_unsent (event.Deliver number) sent = nat_lt (length sent) number
 asks_unsent (event.Submit coord proc args) sent = false
 asks_unsent (event.Tick node) sent = false
+asks_unsent (event.Stop shard None) sent = false
+asks_unsent (event.Stop shard (Some (number, kept))) sent = not (is_sent_to shard number sent)
 
 -- the same of what a line asks for: a choice takes only what was sent
-abbrev pub wants_unsent : Wanted → ℕ → Bool
+abbrev pub wants_unsent : Wanted → List Envelope → Bool
 wants_unsent (wanted.Event e) sent = asks_unsent e sent
 wants_unsent (wanted.Any place) sent = false

@@ -6,9 +6,8 @@ use Rattle.roc_sched.specs.declared.fault.TextFault.{TextFault}
 use Rattle.roc_sched.specs.declared.fault.TextFault.TheVariants.{At, NoMemory}
 use Rattle.roc_sched.specs.declared.fault.What.{What}
 use Rattle.roc_sched.specs.declared.line.Line.{Line}
-use Rattle.roc_sched.specs.Forms.{plain_forms}
 use Rattle.roc_sched.specs.Schedule.{IsScheduleFault, fault_of}
-use Rattle.roc_replay.specs.BoundLine.{asked_by, IsUnfit}
+use Rattle.roc_replay.specs.BoundLine.{played_forms, asked_by, IsUnfit}
 
 -- what a function returned for the line of this number is what reading gives, unless memory ran out
 abbrev pub GivesAtLine : {X : Type 0} → (number : ℕ) → Result X TextFault → Result X What → Type 0
@@ -38,4 +37,4 @@ IsUnfitBy program lines (At line what) = IsFirstUnfit program lines line what
 -- the bytes are no schedule, and this is their first fault; or they are one, and its first line that does not fit the program is blamed
 abbrev pub IsBlamed : Workload → (text : List ℕ) → TextFault → Type 0
 IsBlamed program text NoMemory = Unit {0}
-IsBlamed program text (At line what) = IsScheduleFault plain_forms program.shards text line what ⊎ IsUnfit program text line what
+IsBlamed program text (At line what) = IsScheduleFault played_forms program.shards text line what ⊎ IsUnfit program text line what

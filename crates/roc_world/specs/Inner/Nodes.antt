@@ -6,6 +6,7 @@ use Rattle.roc_msg.specs.Outbox.{Collected, HasSent}
 use Rattle.roc_plan.specs.Groups.{Plan}
 use Rattle.roc_step.specs.declared.handled.Handled.{Handled as ServerHandled}
 use Rattle.roc_step.specs.Reads.{AnswersReads, ReadStep}
+use Rattle.roc_step.specs.Restarts.{without_reads}
 use Rattle.roc_step.specs.State.{ServerState, ServerStep, Viewing}
 use Rattle.roc_step.specs.Step.{Handles, Shows, tick_sends as server_sends}
 use Rattle.roc_coord.specs.declared.handled.Handled.{Handled as CoordHandled}
@@ -57,6 +58,12 @@ pub record ServerTicks (shard : ℕ) (old new : List Idle) (before after : Colle
   pub there : slice_get old shard ≡ Some server
   pub sent : HasSent before after (server_sends server.state)
   pub others : new ≡ slice_set old shard server
+
+-- a server starts again: it keeps its state, and no read for a view
+pub record ServerRestarts (shard : ℕ) (old new : List Idle) : Type 0 where
+  pub server : Idle
+  pub there : slice_get old shard ≡ Some server
+  pub others : new ≡ slice_set old shard (record { state = server.state; viewing = without_reads server.viewing })
 
 -- a tick of a coordinator, likewise
 pub record CoordTicks (plan : Plan) (number : ℕ) (old new : List CoordState) (before after : Collected) : Type 0 where

@@ -1,5 +1,5 @@
 -- What is so far, goes on with each line, and what it comes to at each end.
-use Rattle.std.proofs.Common.{◌≡◌, ◌+◌, List, length, take, true, refl, subst, ◌∙◌}
+use Rattle.std.proofs.Common.{◌≡◌, ◌+◌, List, take, true, refl, subst, ◌∙◌}
 use Rattle.roc_sequence.proofs.Fronts.{front_more, front_whole}
 use Rattle.roc_io.specs.Observed.{Adds, AddsFront}
 use Rattle.roc_program.specs.Program.{Workload}
@@ -14,7 +14,7 @@ loop-line-init g c = (refl, nothing_so_far c.args.plan.now c.args.world.now _ c.
 
 pub returns-then-is_unsent-clause-ends : goal.returns-then-is_unsent-clause-ends
 returns-then-is_unsent-clause-ends g c schedule of =
-    let asks : wants_unsent c.line-item.result.wanted (length c.loop-line.world.sent) ≡ true = cc in
+    let asks : wants_unsent c.line-item.result.wanted c.loop-line.world.sent ≡ true = cc in
     (refl, unsent_end c.args.plan.now schedule c.args.lines.now of c.loop-line.line-index c.line-item.result c.loop-line.world c.loop-line.busy _ _ c.loop-line-test.true c.line-item.is c.loop-line.invariant.1 asks)
 
 pub returns-in_default-clause-ends : goal.returns-in_default-clause-ends
