@@ -1,14 +1,15 @@
 mod Appending
-mod Beginnings
+pub mod Beginnings
 mod Bounds
 mod Datagrams
 mod Endings
-mod Ends
+pub mod Ends
+pub mod Fronts
 mod Heads
 mod Making
 mod Nexts
 mod Records
 mod TwoCalls
 mod Unwritten
-mod Walks
+pub mod Walks
 mod Whichever

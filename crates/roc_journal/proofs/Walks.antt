@@ -23,7 +23,7 @@ not_empty : (records : List Record) (gate : ℕ) (behind : List ℕ) → 0 < len
 not_empty records gate behind = omega (arith, length-append (opened records) (gate ∷ behind))
 
 -- a record behind the gate
-goes_on : (tag : List ℕ) (r : Record) (rs : List Record) (gate end_gate : ℕ) (behind end_behind : List ℕ) → IsRecordOf tag r
+pub goes_on : (tag : List ℕ) (r : Record) (rs : List Record) (gate end_gate : ℕ) (behind end_behind : List ℕ) → IsRecordOf tag r
     → gate ∷ behind ≡ opened (r ∷ rs) ++ end_gate ∷ end_behind → (gate ≡ 1) × BeginsRecord tag behind
 goes_on tag r rs gate end_gate behind end_behind is_of e =
     let after = opened rs ++ end_gate ∷ end_behind in
@@ -72,29 +72,39 @@ pub one_journal : SpelledApart → (tag bytes : List ℕ) (records others : List
 unfolding of_journal
 one_journal apart tag bytes records others j k = (one_walk apart tag bytes (of_journal tag bytes records j) (of_journal tag bytes others k)).0
 
-walk_magic : (tag bytes : List ℕ) → Walk tag bytes → take 4 bytes ≡ magic
-walk_magic tag bytes w = ap (λ (l : List ℕ). take 4 l) w.is
+-- records behind the head, and a gate behind them
+pub record Begun (tag bytes : List ℕ) : Type 0 where
+  pub records : List Record
+  pub gate : ℕ
+  pub behind : List ℕ
+  pub is : bytes ≡ front tag records ++ gate ∷ behind
 
-walk_tag : (tag bytes : List ℕ) → length tag ≡ 8 → Walk tag bytes → take 8 (drop 4 bytes) ≡ tag
-walk_tag tag bytes eight w =
+begun : (tag bytes : List ℕ) → Walk tag bytes → Begun tag bytes
+begun tag bytes w = record { records = w.records; gate = w.gate; behind = w.behind; is = w.is }
+
+begun_magic : (tag bytes : List ℕ) → Begun tag bytes → take 4 bytes ≡ magic
+begun_magic tag bytes w = ap (λ (l : List ℕ). take 4 l) w.is
+
+begun_tag : (tag bytes : List ℕ) → length tag ≡ 8 → Begun tag bytes → take 8 (drop 4 bytes) ≡ tag
+begun_tag tag bytes eight w =
     ap (λ (l : List ℕ). take 8 (drop 4 l)) w.is ∙ ap (λ (l : List ℕ). take 8 l) (append_assoc tag (opened w.records) (w.gate ∷ w.behind))
     ∙ take_at tag (opened w.records ++ w.gate ∷ w.behind) 8 eight
 
-walk_gate : (tag bytes : List ℕ) → Walk tag bytes → bytes ≡ head tag → ⊥
-walk_gate tag bytes w e =
+begun_gate : (tag bytes : List ℕ) → Begun tag bytes → bytes ≡ head tag → ⊥
+begun_gate tag bytes w e =
     omega (arith, ap length (sym e ∙ w.is), length-append (front tag w.records) (w.gate ∷ w.behind), length-append (head tag) (opened w.records))
 
--- where there is a walk, only its end is wrong
-only_end : (tag bytes : List ℕ) (at : ℕ) → length tag ≡ 8 → Walk tag bytes → IsFault tag bytes at → IsBadRecord tag bytes at
-only_end tag bytes at eight w (magic_is_wrong wrong) = absurd (wrong (walk_magic tag bytes w))
-only_end tag bytes at eight w (tag_is_wrong right wrong) = absurd (wrong (walk_tag tag bytes eight w))
-only_end tag bytes at eight w (gate_is_missing e) = absurd (walk_gate tag bytes w e)
+-- where records begin, only one behind them is wrong
+pub only_end : (tag bytes : List ℕ) (at : ℕ) → length tag ≡ 8 → Begun tag bytes → IsFault tag bytes at → IsBadRecord tag bytes at
+only_end tag bytes at eight w (magic_is_wrong wrong) = absurd (wrong (begun_magic tag bytes w))
+only_end tag bytes at eight w (tag_is_wrong right wrong) = absurd (wrong (begun_tag tag bytes eight w))
+only_end tag bytes at eight w (gate_is_missing e) = absurd (begun_gate tag bytes w e)
 only_end tag bytes at eight w (record_is_bad b) = b
 
 pub no_fault : SpelledApart → (tag bytes : List ℕ) (records : List Record) (at : ℕ) → length tag ≡ 8 → IsJournal tag bytes records → IsFault tag bytes at → ⊥
 unfolding of_journal of_bad only_end
 no_fault apart tag bytes records at eight j fault =
-    let bad = only_end tag bytes at eight (of_journal tag bytes records j) fault in
+    let bad = only_end tag bytes at eight (begun tag bytes (of_journal tag bytes records j)) fault in
     let ends = (one_walk apart tag bytes (of_journal tag bytes records j) (of_bad tag bytes at bad)).1 in
     j.closed (head_is j.gate 1 j.behind bad.rest ends)
 
@@ -108,8 +118,8 @@ head_tag : (tag bytes : List ℕ) → length tag ≡ 8 → bytes ≡ head tag �
 head_tag tag bytes eight e = ap (λ (l : List ℕ). take 8 (drop 4 l)) e ∙ take_all 8 tag (omega (arith, eight))
 
 pub one_fault : SpelledApart → (tag bytes : List ℕ) (at other : ℕ) → length tag ≡ 8 → IsFault tag bytes at → IsFault tag bytes other → at ≡ other
-one_fault apart tag bytes at other eight (record_is_bad a) b = bad_alike apart tag bytes at other a (only_end tag bytes other eight (of_bad tag bytes at a) b)
-one_fault apart tag bytes at other eight a (record_is_bad b) = bad_alike apart tag bytes at other (only_end tag bytes at eight (of_bad tag bytes other b) a) b
+one_fault apart tag bytes at other eight (record_is_bad a) b = bad_alike apart tag bytes at other a (only_end tag bytes other eight (begun tag bytes (of_bad tag bytes at a)) b)
+one_fault apart tag bytes at other eight a (record_is_bad b) = bad_alike apart tag bytes at other (only_end tag bytes at eight (begun tag bytes (of_bad tag bytes other b)) a) b
 one_fault apart tag bytes at other eight (magic_is_wrong a) (magic_is_wrong b) = refl
 one_fault apart tag bytes at other eight (magic_is_wrong a) (tag_is_wrong right b) = absurd (a right)
 one_fault apart tag bytes at other eight (magic_is_wrong a) (gate_is_missing b) = absurd (a (ap (λ (l : List ℕ). take 4 l) b))

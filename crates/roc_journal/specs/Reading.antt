@@ -47,11 +47,11 @@ ReadsNext bytes records old new (Err (NoJournal at)) = (bad : IsBadRecord old.ta
 ReadsNext bytes records old new (Err Disk) = Unit {0}
 ReadsNext bytes records old new (Err NoMemory) = MayWantMemory bytes old
 
--- what the file does not say: a reader stands at a gate of a file of its own tag, and opening takes no memory
+-- what the file does not say: a reader stands at a gate of a file of its own tag, a fault is of the head, and opening takes no memory
 abbrev pub OpensRight : (tag : List ℕ) → Result (Option Reader) ReadFault → Type 0
 OpensRight tag (Ok (Some reader)) = (reader.tag ≡ tag) × IsGateWithin reader
 OpensRight tag (Ok None) = Unit {0}
-OpensRight tag (Err (NoJournal at)) = Unit {0}
+OpensRight tag (Err (NoJournal at)) = at ≤ 12
 OpensRight tag (Err Disk) = Unit {0}
 OpensRight tag (Err NoMemory) = ⊥
 

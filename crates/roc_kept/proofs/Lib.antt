@@ -1,0 +1,4 @@
+mod Files
+mod Folds
+mod Keeping
+mod Opened
