@@ -5,3 +5,5 @@ mod OneFold
 mod Spelled
 mod ServerFolds
 mod CoordFolds
+mod RecordedFolds
+mod Reopened

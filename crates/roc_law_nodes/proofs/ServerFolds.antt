@@ -2,7 +2,6 @@
 use Rattle.std.proofs.Common.{◌≡◌, ℕ, Bool, true, false, not, cond, List, [], ◌∷◌, ◌++◌, refl, sym, ap, subst, ◌∙◌, append-nil, append_assoc}
 use Rattle.std.proofs.lemmas.List.Elements.{filter-append}
 use Rattle.std.specs.Prelude.{filter}
-use Rattle.roc_base.specs.declared.node.Shard.{Shard}
 use Rattle.roc_io.specs.declared.link.Addr.{Addr}
 use Rattle.roc_msg.specs.declared.msg.Msg.{Msg}
 use Rattle.roc_msg.specs.declared.msg.Msg.TheVariants.{Stop}
@@ -15,9 +14,9 @@ use Rattle.roc_node.specs.Judgement.{judged}
 use Rattle.roc_node.specs.declared.judging.Judged.{Judged}
 use Rattle.roc_node.specs.declared.judging.Judged.TheVariants.{Delivery, Skipped}
 use Rattle.roc_node.specs.NodeEvent.{NodeEvent, took, silent, NodeSetting}
-use Rattle.roc_node_serve.specs.ServerRun.{ServerNodeState, is_stop, server_heard, server_received, TakesMessage, TakesJudged, AfterEvent, IsServerRun, begun, goes_on}
-use Rattle.roc_law_nodes.specs.Own.{OwnEvent, delivered, ticked, requested}
-use Rattle.roc_law_nodes.specs.Fold.{ServerSteps, IsServerFold, server_begun, server_goes_on}
+use Rattle.roc_node_serve.specs.ServerRun.{ServerNodeState, is_stop, server_heard, server_received, TakesMessage, TakesJudged, AfterEvent, IsServerRunFrom, begun, goes_on}
+use Rattle.roc_law_nodes.specs.Own.{OwnEvent, delivered, ticked, requested, stopped}
+use Rattle.roc_law_nodes.specs.Fold.{ServerSteps, IsServerFoldFrom, server_begun, server_goes_on}
 use Rattle.roc_law_nodes.specs.Turns.{judged_brings, turn_brings, turns_bring, is_for_core}
 use Rattle.roc_law_nodes.proofs.WorldFolds.{server_as}
 
@@ -37,10 +36,10 @@ of_message : (msg : Msg) (b : Bool) → is_stop msg ≡ b → for_core (delivere
 of_message msg true e = ap (λ (b : Bool). cond (not b) (delivered msg ∷ []) []) e
 of_message msg false e = ap (λ (b : Bool). cond (not b) (delivered msg ∷ []) []) e
 
-module _ (S : NodeSetting) (shard : Shard) where
+module _ (S : NodeSetting) (first : ServerNodeState) where
   -- what the core was given leads to this node
   abbrev Folds : List OwnEvent → ServerNodeState → Type 0
-  Folds own node = IsServerFold S.plan shard own node.state node.viewing node.messages
+  Folds own node = IsServerFoldFrom S.plan first.state first.viewing first.messages own node.state node.viewing node.messages
 
   module _ (own : List OwnEvent) (node : ServerNodeState) (fold : Folds own node) where
     same_still : (next : ServerNodeState) (none : List OwnEvent) → none ≡ [] → next.state ≡ node.state → next.viewing ≡ node.viewing → next.messages ≡ node.messages → Folds (own ++ none) next
@@ -67,14 +66,15 @@ module _ (S : NodeSetting) (shard : Shard) where
     event_folds silent next h =
         server_as S.plan (server_goes_on ticked node.state node.viewing _ fold (refl, refl, refl)) refl (ap (λ (n : ServerNodeState). n.state) h) (ap (λ (n : ServerNodeState). n.viewing) h) (ap (λ (n : ServerNodeState). n.messages) h)
 
-  pub run_folds : {events : List NodeEvent} {node : ServerNodeState} → IsServerRun S shard events node → IsServerFold S.plan shard (filter is_for_core (turns_bring S.header.tag events)) node.state node.viewing node.messages
+  pub run_folds : {events : List NodeEvent} {node : ServerNodeState} → IsServerRunFrom S first events node
+      → IsServerFoldFrom S.plan first.state first.viewing first.messages (filter is_for_core (turns_bring S.header.tag events)) node.state node.viewing node.messages
   run_folds begun = server_begun
   run_folds (goes_on {events = events} {node = node} event next r going after) =
       server_as S.plan (event_folds (for_core (turns_bring S.header.tag events)) (server_received node event) (run_folds r) event next after) (core_more S.header.tag events event) refl refl refl
 
 -- ---- a stop changes nothing
 
-module _ (plan : Plan) (shard : Shard) where
+module _ (plan : Plan) (first : ServerState) (keeps : Viewing) (before : List Outgoing) where
   stop_does_nothing : (msg : Msg) (s : ServerState) (v : Viewing) (after : ServerState) (kept : Viewing) (outs : List Outgoing) → is_stop msg ≡ true → ServerSteps plan s v (delivered msg) after kept outs → (after ≡ s) × (kept ≡ v) × (outs ≡ [])
   stop_does_nothing Stop s v after kept outs e (r, q, handles, answers, state, views, sends) =
       let behind = subst (λ (r : ServerStep). AnswersReads plan v Stop r q) handles.is answers in (
@@ -84,20 +84,23 @@ module _ (plan : Plan) (shard : Shard) where
       )
   stop_does_nothing msg s v after kept outs e h = absurd (cc)
 
-  module _ (front : List OwnEvent) (s : ServerState) (v : Viewing) (messages : List Outgoing) (fold : IsServerFold plan shard front s v messages) where
+  module _ (front : List OwnEvent) (s : ServerState) (v : Viewing) (messages : List Outgoing) (fold : IsServerFoldFrom plan first keeps before front s v messages) where
     message_more : (msg : Msg) (after : ServerState) (kept : Viewing) (outs : List Outgoing) → ServerSteps plan s v (delivered msg) after kept outs → (b : Bool) → is_stop msg ≡ b
-        → IsServerFold plan shard (front ++ for_core (delivered msg ∷ [])) after kept (messages ++ outs)
+        → IsServerFoldFrom plan first keeps before (front ++ for_core (delivered msg ∷ [])) after kept (messages ++ outs)
     message_more msg after kept outs h true e =
         let none = stop_does_nothing msg s v after kept outs e h in
         server_as plan fold (ap (λ l. front ++ l) (of_message msg true e) ∙ append-nil front) none.0 none.1 (ap (λ l. messages ++ l) none.2 ∙ append-nil messages)
     message_more msg after kept outs h false e = server_as plan (server_goes_on (delivered msg) after kept outs fold h) (ap (λ l. front ++ l) (of_message msg false e)) refl refl refl
 
-    own_more : (own : OwnEvent) (after : ServerState) (kept : Viewing) (outs : List Outgoing) → ServerSteps plan s v own after kept outs → IsServerFold plan shard (front ++ for_core (own ∷ [])) after kept (messages ++ outs)
+    own_more : (own : OwnEvent) (after : ServerState) (kept : Viewing) (outs : List Outgoing) → ServerSteps plan s v own after kept outs
+        → IsServerFoldFrom plan first keeps before (front ++ for_core (own ∷ [])) after kept (messages ++ outs)
     own_more (delivered msg) after kept outs h = message_more msg after kept outs h (is_stop msg) refl
     own_more ticked after kept outs h = server_goes_on ticked after kept outs fold h
     own_more (requested proc args) after kept outs h = absurd h
+    own_more (stopped at) after kept outs h = server_goes_on (stopped at) after kept outs fold h
 
-  pub without_stops : {own : List OwnEvent} {s : ServerState} {v : Viewing} {messages : List Outgoing} → IsServerFold plan shard own s v messages → IsServerFold plan shard (filter is_for_core own) s v messages
+  pub without_stops : {own : List OwnEvent} {s : ServerState} {v : Viewing} {messages : List Outgoing} → IsServerFoldFrom plan first keeps before own s v messages
+      → IsServerFoldFrom plan first keeps before (filter is_for_core own) s v messages
   without_stops server_begun = server_begun
   without_stops (server_goes_on {events = events} {s = s} {v = v} {messages = messages} own after kept outs fold h) =
       server_as plan (own_more (for_core events) s v messages (without_stops fold) own after kept outs h) (filter-append is_for_core events (own ∷ [])) refl refl refl

@@ -15,7 +15,7 @@ use Rattle.roc_node.specs.declared.judging.Judged.{Judged}
 use Rattle.roc_node.specs.declared.judging.Judged.TheVariants.{Delivery, Skipped}
 use Rattle.roc_node.specs.declared.judging.Skip.TheVariants.{Tag}
 use Rattle.roc_node.specs.NodeEvent.{NodeEvent, took, silent}
-use Rattle.roc_law_nodes.specs.Own.{OwnEvent, delivered, ticked, requested}
+use Rattle.roc_law_nodes.specs.Own.{OwnEvent, delivered, ticked, requested, stopped}
 use Rattle.roc_law_nodes.specs.Turns.{judged_brings, turn_brings, turns_bring, SpellsDelivery, HasTurn, IsTurnOf, AreTurnsOf, no_turns, turn, skipping}
 
 module _ (reads : (bytes : List ℕ) (header : Header) (msg : Msg) → Spells bytes header msg → datagram bytes ≡ Ok (pair header msg)) (tag : List ℕ) where
@@ -28,9 +28,11 @@ module _ (reads : (bytes : List ℕ) (header : Header) (msg : Msg) → Spells by
   turn_of (took packet) (delivered msg) s = delivery packet.bytes msg s
   turn_of (took packet) ticked s = absurd s
   turn_of (took packet) (requested proc args) s = absurd s
+  turn_of (took packet) (stopped at) s = absurd s
   turn_of silent ticked s = refl
   turn_of silent (delivered msg) s = absurd s
   turn_of silent (requested proc args) s = absurd s
+  turn_of silent (stopped at) s = absurd s
 
   pub turns_of : {events : List NodeEvent} {owns : List OwnEvent} → AreTurnsOf tag events owns → turns_bring tag events ≡ owns
   turns_of no_turns = refl
@@ -47,3 +49,4 @@ have_turns header from (delivered msg ∷ owns) h =
     (took packet ∷ rest.0, turn (took packet) (delivered msg) spelled rest.1)
 have_turns header from (ticked ∷ owns) h = let rest = have_turns header from owns h.1 in (silent ∷ rest.0, turn silent ticked tt rest.1)
 have_turns header from (requested proc args ∷ owns) h = absurd h.0
+have_turns header from (stopped at ∷ owns) h = absurd h.0

@@ -1,5 +1,7 @@
 -- An event of the world is one node's step, or none
-use Rattle.std.proofs.Common.{◌≡◌, ℕ, ℤ, ◌-◌, zero, suc, Bool, true, false, List, [], ◌∷◌, ◌++◌, Option, Some, None, Err, map, refl, sym, ap, ◌∙◌, append-nil}
+use Rattle.std.proofs.Common.{◌≡◌, ℕ, ℤ, ◌-◌, zero, suc, Bool, true, false, List, [], ◌∷◌, ◌++◌, Option, Some, None, Err, map, refl, sym, ap, ◌∙◌, append-nil, append_assoc}
+use Rattle.std.proofs.lemmas.List.{map-append}
+use Rattle.std.specs.Option.{option_map}
 use Rattle.std.specs.Prelude.{slice_get, slice_set, if◌then◌else◌}
 use Rattle.roc_base.specs.declared.node.Shard.{Shard}
 use Rattle.roc_base.specs.declared.node.Node.{Node}
@@ -8,7 +10,9 @@ use Rattle.roc_base.specs.Node.{is_node}
 use Rattle.roc_msg.specs.declared.msg.Envelope.{Envelope}
 use Rattle.roc_msg.specs.declared.outbox.Outgoing.{Outgoing}
 use Rattle.roc_plan.specs.Groups.{Plan, is_view_of}
-use Rattle.roc_step.specs.State.{ServerState, Viewing}
+use Rattle.roc_step.specs.Reads.{ReadStep}
+use Rattle.roc_step.specs.Restarts.{cut_short, cut_reads}
+use Rattle.roc_step.specs.State.{ServerState, ServerStep, Viewing}
 use Rattle.roc_step.specs.Step as server
 use Rattle.roc_coord.specs.declared.handled.SubmitFault.{SubmitFault}
 use Rattle.roc_coord.specs.declared.handled.SubmitFault.TheVariants as fault
@@ -18,13 +22,15 @@ use Rattle.roc_coord.specs.Submit.{Submission, refusal_of, refused_or_accepted, 
 use Rattle.roc_readonly.specs.Round.{first_round}
 use Rattle.roc_coord.specs.Tick as coord
 use Rattle.roc_protocol.specs.declared.event.Event.{Event}
-use Rattle.roc_protocol.specs.declared.event.Event.TheVariants.{Submit, Deliver, Tick}
+use Rattle.roc_protocol.specs.declared.event.Event.TheVariants.{Submit, Deliver, Tick, Stop}
+use Rattle.roc_protocol.specs.declared.event.Kept.{Kept}
+use Rattle.roc_protocol.specs.declared.event.Kept.TheVariants.{Lost, Sent}
 use Rattle.roc_protocol.specs.World.{sent_by}
 use Rattle.roc_protocol.proofs.Changed.{get-front}
 use Rattle.roc_views.specs.World.{World, mark_delivered}
-use Rattle.roc_views.specs.Happens.{Outcome, IsSubmissionOf, IsReceived}
+use Rattle.roc_views.specs.Happens.{Outcome, IsSubmissionOf, IsReceived, no_reads, StopsIn, at_rest, unrecorded, recorded, restarted}
 use Rattle.roc_views.specs.Run.{Transition}
-use Rattle.roc_law_nodes.specs.Own.{OwnEvent, delivered, ticked, requested, heard_by, own_step}
+use Rattle.roc_law_nodes.specs.Own.{OwnEvent, delivered, ticked, requested, stopped, stopped_at, heard_by, own_step}
 use Rattle.roc_law_nodes.specs.Fold.{ServerSteps, CoordSteps}
 
 -- from w to v an event is an own event of this node, which sends these messages
@@ -107,6 +113,40 @@ module _ (plan : Plan) (w : World) where
       })
       at (refl, refl) (ap (λ (o : Outcome). o.world.coords) is) (ap (λ (o : Outcome). o.world.servers) is) (ap (λ (o : Outcome). o.world.viewing) is)
 
+  -- a stop, in the world where it stops
+  stopping : (shard : Shard) (s : ServerState) (v : Viewing) → slice_get w.servers shard.0 ≡ Some s → slice_get w.viewing shard.0 ≡ Some v
+      → (own during : Option (ℕ × Kept)) → own ≡ during → (before : World) (r : ServerStep) (q : ReadStep) → StopsIn plan w shard.0 s v during before r q
+      → (o : Outcome) → o ≡ restarted before shard.0 r q → IsStep plan w o.world (Some (Stop shard own))
+  stopping shard s v there keeps own during same before r q at_rest o is =
+      server_step shard (stopped None) s s v (no_reads v).viewing (server.tick_sends s)
+      (record {
+        is = λ node more. ap (λ d. if is_node (Server shard) node then Some (stopped (stopped_at (w.sent ++ more) d)) else None) same;
+        sends = ap (λ (o : Outcome). o.world.sent) is ∙ ap (λ l. l ++ map (sent_by (Server shard)) (server.tick_sends s)) (append-nil w.sent);
+      })
+      there keeps (refl, refl, refl)
+      (ap (λ (o : Outcome). o.world.servers) is) (ap (λ (o : Outcome). o.world.viewing) is) (ap (λ (o : Outcome). o.world.coords) is)
+  stopping shard s v there keeps own during same before r q (unrecorded k m sent) o is =
+      server_step shard (stopped (Some (m.msg, Lost))) s s v (no_reads v).viewing (server.tick_sends s)
+      (record {
+        is = λ node more. ap (λ d. if is_node (Server shard) node then Some (stopped (stopped_at (w.sent ++ more) d)) else None) same
+            ∙ ap (λ x. if is_node (Server shard) node then Some (stopped (option_map (λ (m : Envelope). (m.msg, Lost)) x)) else None) (get-front w.sent more (k - 1) m sent.there);
+        sends = ap (λ (o : Outcome). o.world.sent) is ∙ ap (λ l. l ++ map (sent_by (Server shard)) (server.tick_sends s)) (append-nil w.sent);
+      })
+      there keeps (refl, refl, refl)
+      (ap (λ (o : Outcome). o.world.servers) is) (ap (λ (o : Outcome). o.world.viewing) is) (ap (λ (o : Outcome). o.world.coords) is)
+  stopping shard s v there keeps own during same before r q (recorded k many m whole reads sent handles answers) o is =
+      let front = (cut_short many whole).sends ++ (cut_reads many whole reads).sends in
+      let ticks = server.tick_sends whole.state in
+      server_step shard (stopped (Some (m.msg, Sent many))) s whole.state v (cut_reads many whole reads).viewing (front ++ ticks)
+      (record {
+        is = λ node more. ap (λ d. if is_node (Server shard) node then Some (stopped (stopped_at (w.sent ++ more) d)) else None) same
+            ∙ ap (λ x. if is_node (Server shard) node then Some (stopped (option_map (λ (m : Envelope). (m.msg, Sent many)) x)) else None) (get-front w.sent more (k - 1) m sent.there);
+        sends = ap (λ (o : Outcome). o.world.sent) is
+            ∙ (append_assoc w.sent (map (sent_by (Server shard)) front) (map (sent_by (Server shard)) ticks) ∙ ap (λ l. w.sent ++ l) (sym (map-append (sent_by (Server shard)) front ticks)));
+      })
+      there keeps (whole, reads, handles, answers, refl, refl, refl)
+      (ap (λ (o : Outcome). o.world.servers) is) (ap (λ (o : Outcome). o.world.viewing) is) (ap (λ (o : Outcome). o.world.coords) is)
+
   -- an event of any world is one node's step
   pub stepping : (e : Option Event) (o : Outcome) → Transition plan w e o → IsStep plan w o.world e
   stepping None o h = no_step (ap (λ (o : Outcome). o.world) h) refl
@@ -128,3 +168,4 @@ module _ (plan : Plan) (w : World) where
       (record { is = λ node more. refl; sends = ap (λ (o : Outcome). o.world.sent) is })
       there (refl, refl)
       (ap (λ (o : Outcome). o.world.coords) is ∙ sym (set_there w.coords n c there)) (ap (λ (o : Outcome). o.world.servers) is) (ap (λ (o : Outcome). o.world.viewing) is)
+  stepping (Some (Stop shard during)) o x = stopping shard x.state x.viewing x.there x.keeps during during refl x.before x.step x.reads x.stops o x.is

@@ -18,19 +18,19 @@ use Rattle.roc_views.specs.Run.{Stepped, IsRun, at_beginning, steps_on}
 use Rattle.roc_protocol.proofs.Changed.{get-set_here, get-set_other}
 use Rattle.roc_protocol.proofs.Firsts.{found_at}
 use Rattle.roc_law_nodes.specs.Own.{OwnEvent, own_events, messages_of}
-use Rattle.roc_law_nodes.specs.Fold.{ServerSteps, IsServerFold, server_begun, server_goes_on, CoordSteps, IsCoordFold, coord_begun, coord_goes_on}
+use Rattle.roc_law_nodes.specs.Fold.{ServerSteps, IsServerFoldFrom, IsServerFold, server_begun, server_goes_on, CoordSteps, IsCoordFold, coord_begun, coord_goes_on}
 use Rattle.roc_law_nodes.proofs.Stepping.{IsStepAt, IsStep, no_step, server_step, coord_step, stepping}
 use Rattle.roc_law_nodes.proofs.Owned.{Gains, gains_here, gains_elsewhere, gains_nothing}
 
 -- ---- the same fold under equal lists
 
 module _ (plan : Plan) where
-  pub server_as : {shard : Shard} {events others : List OwnEvent} {s t : ServerState} {v u : Viewing} {messages more : List Outgoing} → IsServerFold plan shard events s v messages → others ≡ events → t ≡ s → u ≡ v → more ≡ messages
-      → IsServerFold plan shard others t u more
-  server_as {shard} {events} {others} {s} {t} {v} {u} {messages} {more} f e st view m =
-      subst (λ (l : List OwnEvent). IsServerFold plan shard l t u more) (sym e)
-      (subst (λ (x : ServerState). IsServerFold plan shard events x u more) (sym st)
-      (subst (λ (x : Viewing). IsServerFold plan shard events s x more) (sym view) (subst (λ (l : List Outgoing). IsServerFold plan shard events s v l) (sym m) f)))
+  pub server_as : {first : ServerState} {keeps : Viewing} {before : List Outgoing} {events others : List OwnEvent} {s t : ServerState} {v u : Viewing} {messages more : List Outgoing}
+      → IsServerFoldFrom plan first keeps before events s v messages → others ≡ events → t ≡ s → u ≡ v → more ≡ messages → IsServerFoldFrom plan first keeps before others t u more
+  server_as {first} {keeps} {before} {events} {others} {s} {t} {v} {u} {messages} {more} f e st view m =
+      subst (λ (l : List OwnEvent). IsServerFoldFrom plan first keeps before l t u more) (sym e)
+      (subst (λ (x : ServerState). IsServerFoldFrom plan first keeps before events x u more) (sym st)
+      (subst (λ (x : Viewing). IsServerFoldFrom plan first keeps before events s x more) (sym view) (subst (λ (l : List Outgoing). IsServerFoldFrom plan first keeps before events s v l) (sym m) f)))
 
   pub coord_as : {number : ℕ} {events others : List OwnEvent} {c d : CoordState} {messages more : List Outgoing} → IsCoordFold plan number events c messages → others ≡ events → d ≡ c → more ≡ messages → IsCoordFold plan number others d more
   coord_as {number} {events} {others} {c} {d} {messages} {more} f e st m =

@@ -1,3 +1,4 @@
 pub mod Own
 pub mod Fold
+pub mod Records
 pub mod Turns

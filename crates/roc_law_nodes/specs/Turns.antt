@@ -16,7 +16,7 @@ use Rattle.roc_node.specs.declared.judging.Skip.{Skip}
 use Rattle.roc_node.specs.NodeEvent.{NodeEvent, took, silent, NodeSetting}
 use Rattle.roc_node_submit.specs.CoordRun.{CoordNodeState, submissions_of, coord_turn}
 use Rattle.roc_node_serve.specs.ServerRun.{is_stop}
-use Rattle.roc_law_nodes.specs.Own.{OwnEvent, delivered, ticked, requested}
+use Rattle.roc_law_nodes.specs.Own.{OwnEvent, delivered, ticked, requested, stopped}
 
 -- ---- any turns
 
@@ -38,6 +38,7 @@ abbrev pub is_for_core : OwnEvent → Bool
 is_for_core (delivered msg) = not (is_stop msg)
 is_for_core ticked = true
 is_for_core (requested proc args) = true
+is_for_core (stopped at) = true
 
 -- ---- turns that spell own events
 
@@ -52,9 +53,11 @@ abbrev pub IsTurnOf : (tag : List ℕ) → NodeEvent → OwnEvent → Type 0
 IsTurnOf tag (took packet) (delivered msg) = SpellsDelivery tag packet.bytes msg
 IsTurnOf tag (took packet) ticked = ⊥
 IsTurnOf tag (took packet) (requested proc args) = ⊥
+IsTurnOf tag (took packet) (stopped at) = ⊥
 IsTurnOf tag silent ticked = Unit {0}
 IsTurnOf tag silent (delivered msg) = ⊥
 IsTurnOf tag silent (requested proc args) = ⊥
+IsTurnOf tag silent (stopped at) = ⊥
 
 -- the turns bring these own events, one each; between them may be datagrams that are skipped
 pub data AreTurnsOf (tag : List ℕ) : List NodeEvent → List OwnEvent → Type 0 where
@@ -69,6 +72,7 @@ abbrev pub HasTurn : Header → OwnEvent → Type 0
 HasTurn header (delivered msg) = IsSpellable header msg
 HasTurn header ticked = Unit {0}
 HasTurn header (requested proc args) = ⊥
+HasTurn header (stopped at) = ⊥
 
 -- ---- the requests of a coordinator's node
 
@@ -76,6 +80,7 @@ abbrev pub is_request : OwnEvent → Bool
 is_request (requested proc args) = true
 is_request (delivered msg) = false
 is_request ticked = false
+is_request (stopped at) = false
 
 -- the submission of a request: none, where it names no procedure
 abbrev pub own_request : Plan → Request → Option OwnEvent

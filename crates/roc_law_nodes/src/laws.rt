@@ -1,25 +1,31 @@
 //! The world's nodes and the nodes that people run are one. Each law is the contract of a function that does nothing.
-ghost use Rattle.std.specs.Prelude.{◌≡◌, ℕ, not, List, Some, filter, slice_get};
+ghost use Rattle.std.specs.Prelude.{◌≡◌, ℕ, not, List, [], ◌∷◌, ◌++◌, Option, Some, filter, slice_get};
 ghost use Rattle.std.specs.List.{AllByRecursion};
 ghost use Rattle.roc_base.specs.declared.node.Shard.{Shard};
 ghost use Rattle.roc_base.specs.declared.node.Node.TheVariants as node;
 ghost use Rattle.roc_coord.specs.State.{CoordState};
 ghost use Rattle.roc_io.specs.declared.link.Addr.{Addr};
+ghost use Rattle.roc_msg.specs.declared.msg.Msg.{Msg};
 ghost use Rattle.roc_msg.specs.declared.outbox.Outgoing.{Outgoing};
 ghost use Rattle.roc_node_submit.specs.CoordRun.{CoordNodeState, first_coord_node_state, IsCoordRun};
 ghost use Rattle.roc_node.specs.NodeEvent.{NodeEvent, NodeSetting};
-ghost use Rattle.roc_node_serve.specs.ServerRun.{ServerNodeState, IsServerRun};
+ghost use Rattle.roc_node_serve.specs.ServerRun.{ServerNodeState, IsServerRun, IsServerRunFrom, opened_node};
 ghost use Rattle.roc_plan.specs.Groups.{Plan};
+ghost use Rattle.roc_protocol.specs.declared.event.Kept.{Kept};
 ghost use Rattle.roc_views.specs.Run.{Stepped, IsRun};
 ghost use Rattle.roc_views.specs.World.{World};
 ghost use Rattle.roc_law_nodes.specs.Fold.{IsServerFold, IsCoordFold};
-ghost use Rattle.roc_law_nodes.specs.Own.{OwnEvent, own_events, messages_of};
+ghost use Rattle.roc_law_nodes.specs.Records.{IsRecordedFold};
+ghost use Rattle.roc_law_nodes.specs.Own.{OwnEvent, stopped, own_events, messages_of};
 ghost use Rattle.roc_law_nodes.specs.Turns.{turns_bring, is_for_core, AreTurnsOf, HasTurn, is_request, coord_owns, AreBrought};
 ghost use Rattle.roc_sched.specs.declared.line.Request.{Request};
+ghost use Rattle.roc_step.specs.Restarts.{StandsFor};
 ghost use Rattle.roc_step.specs.State.{ServerState, Viewing};
 ghost use Rattle.roc_wire.specs.declared.header.Header.{Header};
 
-use roc_step::laws::{read_step_is_one, step_is_one};
+use roc_step::laws::{
+    kept_fold_is_one, read_step_is_one, records_stand, restarts_stand, step_is_one,
+};
 use roc_wire::laws::spelled_is_read;
 
 /// In every run of the world, the state of each node and the messages that the world has from it, in the order in which it sent them,
@@ -32,6 +38,19 @@ pub fn world_is_folds()
         → (number : ℕ) (c : CoordState) → slice_get w.coords number ≡ Some c
         → IsCoordFold plan number (own_events (node.Coord number) w.sent steps) c (messages_of (node.Coord number) w.sent) }
 {}
+
+/// In every run of the world each server stands for its records: wherever it stops, these and no more give the state in which it starts again, and what
+/// it keeps for views but for the reads that wait.
+pub fn restarts_are_folds()
+    ensures { (plan : Plan) (coords : ℕ) (steps : List Stepped) (w : World) → IsRun plan coords steps w
+        → (shard : Shard) (s : ServerState) → slice_get w.servers shard.0 ≡ Some s
+        → (v : Viewing) × (slice_get w.viewing shard.0 ≡ Some v) × (records : List Msg)
+        × IsRecordedFold plan shard (own_events (node.Server shard) w.sent steps) records s v × StandsFor plan shard records s v }
+{
+    world_is_folds();
+    records_stand();
+    restarts_stand();
+}
 
 /// The fold over a list of own events is one: its state, what it keeps for views, and its messages. For a server's core a stop changes nothing and sends nothing.
 pub fn fold_is_one()
@@ -92,5 +111,27 @@ pub fn node_runs_are_the_world()
 {
     step_is_one();
     read_step_is_one();
+    spelled_is_read();
+}
+
+/// A server's node that is opened on a journal is the world's, too. Let a server of the world stop, and have these records then; let a node be opened that
+/// stands for the same records and keeps no read, and let its turns spell the server's own events behind that stop. Then it comes to the world's state, keeps
+/// for views what the world has there, and sent the last of the messages that the world has from the server: those from the tick on with which it starts
+/// again. So a server that ends and is opened again, as often as it is, is one server of the world.
+pub fn restarted_nodes_are_the_world()
+    ensures { (S : NodeSetting) (coords : ℕ) (steps : List Stepped) (w : World) → IsRun S.plan coords steps w
+        → (shard : Shard) (s : ServerState) → slice_get w.servers shard.0 ≡ Some s
+        → (front behind : List OwnEvent) (at : Option (Msg × Kept)) → own_events (node.Server shard) w.sent steps ≡ front ++ stopped at ∷ behind
+        → (records : List Msg) (t : ServerState) (u : Viewing) → IsRecordedFold S.plan shard (front ++ stopped at ∷ []) records t u
+        → (state : ServerState) (viewing : Viewing) → StandsFor S.plan shard records state viewing → viewing.reads ≡ []
+        → (events : List NodeEvent) (n : ServerNodeState) → IsServerRunFrom S (opened_node S state viewing) events n → AreTurnsOf S.header.tag events behind
+        → (n.state ≡ s) × (slice_get w.viewing shard.0 ≡ Some n.viewing) × (early : List Outgoing) × (messages_of (node.Server shard) w.sent ≡ early ++ n.messages) }
+{
+    world_is_folds();
+    step_is_one();
+    read_step_is_one();
+    kept_fold_is_one();
+    records_stand();
+    restarts_stand();
     spelled_is_read();
 }

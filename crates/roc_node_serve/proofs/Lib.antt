@@ -1,3 +1,7 @@
+mod Ending
+mod Journals
+mod Opened
 mod Served
 mod Servers
 mod Shards
+mod Turning

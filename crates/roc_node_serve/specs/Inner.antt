@@ -1,2 +1,3 @@
 -- What stands here is of private functions alone
+pub mod JournalTurn
 pub mod ServerTurn

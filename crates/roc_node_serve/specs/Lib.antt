@@ -1,3 +1,4 @@
 pub mod ServerRun
 pub mod ServeEnd
+pub mod Keeping
 pub mod Inner

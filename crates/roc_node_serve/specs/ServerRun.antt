@@ -97,8 +97,17 @@ AfterEvent S node silent next = next ≡ server_sends S node (tick_sends node.st
 abbrev pub AfterTurn : NodeSetting → ServerNodeState → NodeEvent → ServerNodeState → Type 0
 AfterTurn S node event next = AfterEvent S (server_received node event) event next
 
--- the turns of these events, one by one, lead from the first node to this one
-pub data IsServerRun (S : NodeSetting) (shard : Shard) : List NodeEvent → ServerNodeState → Type 0 where
-  begun : IsServerRun S shard [] (first_server_node_state S.plan shard)
+-- the turns of these events, one by one, lead from one node to another
+pub data IsServerRunFrom (S : NodeSetting) (first : ServerNodeState) : List NodeEvent → ServerNodeState → Type 0 where
+  begun : IsServerRunFrom S first [] first
   goes_on : {events : List NodeEvent} {node : ServerNodeState} (event : NodeEvent) (next : ServerNodeState)
-      → IsServerRun S shard events node → node.stopped ≡ false → AfterTurn S node event next → IsServerRun S shard (events ++ event ∷ []) next
+      → IsServerRunFrom S first events node → node.stopped ≡ false → AfterTurn S node event next → IsServerRunFrom S first (events ++ event ∷ []) next
+
+-- the same from before any turn, of a server without a journal
+abbrev pub IsServerRun : NodeSetting → Shard → List NodeEvent → ServerNodeState → Type 0
+IsServerRun S shard events node = IsServerRunFrom S (first_server_node_state S.plan shard) events node
+
+-- before any turn, where a journal was opened and the server keeps this: nobody was heard, and it has sent one tick, of which what is for
+-- shards goes out
+abbrev pub opened_node : NodeSetting → ServerState → Viewing → ServerNodeState
+opened_node S s v = server_sends S (record (first_server_node_state S.plan s.shard) { state = s; viewing = v }) (tick_sends s)

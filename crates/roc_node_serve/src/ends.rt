@@ -11,4 +11,10 @@ pub enum ServeEnd {
     SinkFault,
     /// No memory.
     NoMemory,
+    /// The file that was named is no journal of the shard, and this is the place.
+    Journal(u64),
+    /// The journal would be too long.
+    Full,
+    /// The disk failed.
+    Disk,
 }

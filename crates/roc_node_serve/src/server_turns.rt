@@ -1,15 +1,18 @@
 //! The turns of a server's node.
-ghost use Rattle.std.specs.Prelude.{◌≡◌, length, OnOk, if◌then◌else◌};
+ghost use Rattle.std.specs.Prelude.{◌≡◌, false, List, length, map};
 ghost use Rattle.roc_io.specs.Call.{link_view};
 ghost use Rattle.roc_io.specs.Cause.{HasCause};
-ghost use Rattle.roc_server.specs.Ahead.{ServingFits};
+ghost use Rattle.roc_io.specs.Link.{sending};
+ghost use Rattle.roc_msg.specs.declared.outbox.Outgoing.{Outgoing};
 ghost use Rattle.roc_wire.specs.Fits.{FitsHeader};
 ghost use Rattle.roc_node.specs.Setting.{setting_of};
-ghost use Rattle.roc_node_serve.specs.Inner.ServerTurn.{TakesOne, Turns, RunsTurns, event_failed, first_server_node, run_failed, turn_failed};
+ghost use Rattle.roc_node_serve.specs.Inner.JournalTurn.{IsOpen, CallsDisk};
+ghost use Rattle.roc_node_serve.specs.Inner.ServerTurn.{ComesOfTurns, TakesOne, TakesTurn, event_failed, node_of, run_broke, run_ended_by_journal, run_failed, turn_failed, turn_of};
 
 use crate::server_node::{ServerNode, TurnOutput, take_datagram, take_silence};
-use roc_base::Shard;
-use roc_io::{Arrival, Link, send_all};
+use roc_disk::Disk;
+use roc_io::{Arrival, Datagram, Link, send_all};
+use roc_kept::KeptFault;
 use roc_node::Setting;
 use std::alloc::Global;
 
@@ -24,32 +27,47 @@ pub enum TurnEnd {
     NoMemory,
     /// The receive failed.
     LinkFault,
+    /// The journal would be too long.
+    Full,
+    /// The disk failed.
+    Disk,
+}
+
+// The end of a turn that brought a message that was not taken.
+fn turn_of(fault: KeptFault) -> TurnEnd
+    ensures { result ≡ turn_of fault }
+{
+    match fault {
+        KeptFault::NoMemory => TurnEnd::NoMemory,
+        KeptFault::Full => TurnEnd::Full,
+        KeptFault::Disk | KeptFault::Broken => TurnEnd::Disk,
+    }
 }
 
 // One receive, and what the node makes of it.
-fn one_event<L: Link>(
+fn one_event<L: Link, D: Disk>(
     alloc: Global,
     setting: Setting<'_>,
     server_node: &mut ServerNode,
     link: &mut L,
     buffer: &mut Vec<u8>,
+    disk: &mut D,
 ) -> Result<TurnOutput, TurnEnd>
-    requires fits { ServingFits setting.plan.now server_node.old.server }
+    requires ready { IsOpen (setting_of setting) server_node.old.server }
     requires header { FitsHeader setting.header.now }
     requires cluster { length setting.cluster.now ≡ setting.plan.now.program.shards }
     ensures cause { HasCause (event_failed result) (L.faults link.old) (L.faults link.new) }
-    ensures takes { TakesOne (setting_of setting.entry) result server_node.old server_node.new (link_view L.Link link.old) (link_view L.Link link.new) }
-    ensures fits { OnOk result (ServingFits setting.entry.plan.now server_node.new.server) }
+    ensures takes { TakesOne D.Disk disk.old disk.new (setting_of setting.entry) server_node.old server_node.new (link_view L.Link link.old) (link_view L.Link link.new) result }
     ensures bound { L.bound link.new ≡ L.bound link.old }
 {
     match link.receive(buffer) {
         Arrival::Datagram { from } => {
-            match take_datagram(alloc, setting, server_node, from, buffer) {
+            match take_datagram(alloc, setting, server_node, from, buffer, disk) {
                 Ok(output) => Ok(output),
-                Err(_) => Err(TurnEnd::NoMemory),
+                Err(fault) => Err(turn_of(fault)),
             }
         }
-        Arrival::Quiet => match take_silence(alloc, setting, server_node) {
+        Arrival::Quiet => match take_silence(alloc, setting, server_node, disk) {
             Ok(output) => Ok(output),
             Err(_) => Err(TurnEnd::NoMemory),
         },
@@ -59,22 +77,22 @@ fn one_event<L: Link>(
 }
 
 /// One receive, what the node makes of it, and what it sends.
-pub fn take_turn<L: Link>(
+pub fn take_turn<L: Link, D: Disk>(
     alloc: Global,
     setting: Setting<'_>,
     server_node: &mut ServerNode,
     link: &mut L,
     buffer: &mut Vec<u8>,
+    disk: &mut D,
 ) -> TurnEnd
-    requires fits { ServingFits setting.plan.now server_node.old.server }
+    requires ready { IsOpen (setting_of setting) server_node.old.server }
     requires header { FitsHeader setting.header.now }
     requires cluster { length setting.cluster.now ≡ setting.plan.now.program.shards }
     ensures cause { HasCause (turn_failed result) (L.faults link.old) (L.faults link.new) }
-    ensures turns { Turns (setting_of setting.entry) result server_node.old server_node.new (link_view L.Link link.old) (link_view L.Link link.new) }
-    ensures fits { result ≡ TurnEnd.Goes → ServingFits setting.entry.plan.now server_node.new.server }
+    ensures takes { TakesTurn D.Disk disk.old disk.new (setting_of setting.entry) server_node.old server_node.new (link_view L.Link link.old) (link_view L.Link link.new) result }
     ensures bound { L.bound link.new ≡ L.bound link.old }
 {
-    match one_event(alloc, setting, server_node, link, buffer) {
+    match one_event(alloc, setting, server_node, link, buffer, disk) {
         Ok(output) => {
             send_all(link, &output.sends);
             if output.stopped {
@@ -96,32 +114,41 @@ pub enum RunEnd {
     NoMemory,
     /// A receive failed.
     LinkFault,
+    /// The journal would be too long.
+    Full,
+    /// The disk failed.
+    Disk,
 }
 
-/// Turns, until one stops the node or so many were taken.
-pub fn run_turns<L: Link>(
+/// What a node is to send before its first turn, and then turns, until one stops the node or so many were taken.
+pub fn run_turns<L: Link, D: Disk>(
     alloc: Global,
     setting: Setting<'_>,
-    shard: Shard,
     server_node: &mut ServerNode,
+    sends: &[Datagram],
     link: &mut L,
     turns: u32,
+    disk: &mut D,
 ) -> RunEnd
-    requires first { server_node.old ≡ first_server_node setting.plan.now shard }
-    requires fits { ServingFits setting.plan.now server_node.old.server }
+    requires ready { IsOpen (setting_of setting) server_node.old.server }
     requires header { FitsHeader setting.header.now }
     requires cluster { length setting.cluster.now ≡ setting.plan.now.program.shards }
     ensures cause { HasCause (run_failed result) (L.faults link.old) (L.faults link.new) }
-    ensures runs { RunsTurns result (setting_of setting.entry) shard turns server_node.new (link_view L.Link link.old) (link_view L.Link link.new) }
+    ensures calls { CallsDisk D.Disk disk.old disk.new server_node.old.server (run_broke result) (run_ended_by_journal result) }
+    ensures runs { (messages : List Outgoing) → ComesOfTurns D.Disk disk.old disk.new (setting_of setting.entry) (node_of server_node.old messages (map sending sends.now) false)
+        turns server_node.old.server server_node.new (link_view L.Link link.old) (link_view L.Link link.new) result }
     ensures bound { L.bound link.new ≡ L.bound link.old }
 {
+    send_all(link, sends);
     let mut buffer = Vec::new(alloc);
     for _ in 0..turns {
-        match take_turn(alloc, setting, server_node, link, &mut buffer) {
+        match take_turn(alloc, setting, server_node, link, &mut buffer, disk) {
             TurnEnd::Goes => {}
             TurnEnd::Stopped => return RunEnd::Over(true),
             TurnEnd::NoMemory => return RunEnd::NoMemory,
             TurnEnd::LinkFault => return RunEnd::LinkFault,
+            TurnEnd::Full => return RunEnd::Full,
+            TurnEnd::Disk => return RunEnd::Disk,
         }
     }
     RunEnd::Over(false)

@@ -1,34 +1,42 @@
 //! Serving a shard.
-ghost use Rattle.std.specs.Prelude.{◌≡◌, false, ◌<◌, length, Some, IfOk, slice_get};
+ghost use Rattle.std.specs.Prelude.{◌≡◌, true, false, ◌<◌, List, length, map, Some, None, IfOk, slice_get, option_map};
 ghost use Rattle.roc_base.specs.declared.node.Node.TheVariants as node;
 ghost use Rattle.roc_io.specs.declared.link.Addr.{Addr};
 ghost use Rattle.roc_io.specs.Call.{link_call, sink_call};
 ghost use Rattle.roc_io.specs.Cause.{HasCause};
-ghost use Rattle.roc_server.specs.Ahead.{ServingFits};
+ghost use Rattle.roc_io.specs.Link.{sending};
+ghost use Rattle.roc_msg.specs.declared.outbox.Outgoing.{Outgoing};
 ghost use Rattle.roc_wire.specs.Fits.{FitsHeader};
 ghost use Rattle.roc_node.specs.NodeEvent.{node_setting};
 ghost use Rattle.roc_node.specs.NodeLine.{node_lines_text, end_lines};
 ghost use Rattle.roc_node.specs.Setting.{setting_of};
-ghost use Rattle.roc_node_serve.specs.ServeEnd.{Serves, first_text, serve_link_failed, serve_sink_failed};
-ghost use Rattle.roc_node_serve.specs.Inner.ServerTurn.{first_server_node, ClosesServe};
+ghost use Rattle.roc_node_serve.specs.Keeping.{ServesKept, ServesUnkept, ServesWith};
+ghost use Rattle.roc_node_serve.specs.ServerRun.{opened_node};
+ghost use Rattle.roc_node_serve.specs.ServeEnd.{first_text, is_end_of_journal, serve_disk_failed, serve_link_failed, serve_refused, serve_sink_failed};
+ghost use Rattle.roc_node_serve.specs.Inner.JournalTurn.{CallsDisk, IsOpen};
+ghost use Rattle.roc_node_serve.specs.Inner.ServerTurn.{ClosesServe, ComesOfServing, IsFirstNode, end_of, node_of};
 
 use crate::ServeEnd;
-use crate::server_node::ServerNode;
+use crate::server_node::{ServerNode, take_silence};
 use crate::server_turns::{RunEnd, run_turns};
 use roc_base::{NoMemory, Node, Shard};
 use roc_cluster::Cluster;
-use roc_io::{Bound, Link, Sink, Written};
+use roc_disk::Disk;
+use roc_io::{Bound, Datagram, Link, Sink, Written};
+use roc_kept::{KeptServer, OpenFault};
 use roc_node::{Counts, Heard, NodeLine, Setting, append_end, append_line};
 use roc_plan::Plan;
 use roc_server::Server;
 use roc_wire::Header;
 use std::alloc::Global;
 
-/// Serves a shard: binds its address, writes that it serves, takes turns until a stop comes or so many were taken, and writes what came of
-/// them; with `counts` also how often each word was the cause to skip a datagram or to ignore a message.
+/// Serves a shard: opens the journal of the name, where one is given, binds the shard's address, writes that it serves, takes turns until a stop
+/// comes or so many were taken, and writes what came of them; with `counts` also how often each word was the cause to skip a datagram or to ignore a
+/// message.
 ///
-/// A turn is one receive. The datagrams of a turn are sent behind it, and before the next one.
-pub fn serve<L: Link, S: Sink>(
+/// A turn is one receive. The datagrams of a turn are sent behind it, and before the next one. A server that was opened from a journal sends one tick
+/// before its first turn. What leaves a record is in the journal before anything is sent for it. Without a journal the disk is not touched.
+pub fn serve<L: Link, S: Sink, D: Disk>(
     alloc: Global,
     plan: &Plan,
     tag: [u8; 8],
@@ -38,15 +46,21 @@ pub fn serve<L: Link, S: Sink>(
     link: &mut L,
     turns: u32,
     out: &mut S,
+    journal: Option<&str>,
+    disk: &mut D,
 ) -> ServeEnd
     requires cluster { length cluster.now ≡ plan.now.program.shards }
     requires shard { shard.0 < plan.now.program.shards }
     // A fault has its cause, and no other end comes where a count rose.
     ensures link_cause { HasCause (serve_link_failed result) (L.faults link.old) (L.faults link.new) }
+    ensures link_stays { serve_refused result ≡ true → link.new ≡ link.old }
     ensures sink_cause { HasCause (serve_sink_failed result) (S.faults out.old) (S.faults out.new) }
-    // What the node's run gives over the arrivals is what was sent and written.
+    ensures disk_cause { HasCause (serve_disk_failed result) (D.faults disk.old) (D.faults disk.new) }
+    ensures disk_told { D.tells disk.new ≡ true → D.tells disk.old ≡ true }
+    ensures disk_stays { journal.entry ≡ None → disk.new ≡ disk.old }
+    // What the node's run gives over the arrivals is what was sent and written, and what the journal keeps.
     ensures serves { (own : Addr) → slice_get cluster.now shard.0 ≡ Some own
-        → Serves (node_setting plan.now tag (node.Server shard) cluster.now) shard own turns counts
+        → ServesWith D.Disk disk.old disk.new (option_map (λ name. name.now) journal.entry) (node_setting plan.now tag (node.Server shard) cluster.now) shard own turns counts
         (record { link = link_call L.Link link.old link.new; out = sink_call S.Sink out.old out.new })
         result }
 {
@@ -56,23 +70,111 @@ pub fn serve<L: Link, S: Sink>(
         cluster,
         header: &header,
     };
-    match open_server_node(alloc, plan, shard) {
-        Ok(mut server_node) => serve_from(
-            alloc,
-            setting,
-            shard,
-            &mut server_node,
-            counts,
-            link,
-            turns,
-            out,
-        ),
-        Err(_) => ServeEnd::NoMemory,
+    match journal {
+        None => serve_unkept(alloc, setting, shard, counts, link, turns, out, disk),
+        Some(name) => serve_kept(alloc, setting, shard, counts, link, turns, out, name, disk),
     }
 }
 
-// Serves from what a server keeps before any turn.
-fn serve_from<L: Link, S: Sink>(
+// Serves without a journal.
+fn serve_unkept<L: Link, S: Sink, D: Disk>(
+    alloc: Global,
+    setting: Setting<'_>,
+    shard: Shard,
+    counts: bool,
+    link: &mut L,
+    turns: u32,
+    out: &mut S,
+    disk: &mut D,
+) -> ServeEnd
+    requires cluster { length setting.cluster.now ≡ setting.plan.now.program.shards }
+    requires shard { shard.0 < setting.plan.now.program.shards }
+    requires header { FitsHeader setting.header.now }
+    ensures link_cause { HasCause (serve_link_failed result) (L.faults link.old) (L.faults link.new) }
+    ensures opened { serve_refused result ≡ false }
+    ensures sink_cause { HasCause (serve_sink_failed result) (S.faults out.old) (S.faults out.new) }
+    ensures disk_cause { HasCause (serve_disk_failed result) (D.faults disk.old) (D.faults disk.new) }
+    ensures disk_stays { disk.new ≡ disk.old }
+    ensures serves { (own : Addr) → slice_get setting.entry.cluster.now shard.0 ≡ Some own
+        → ServesUnkept (setting_of setting.entry) shard own turns counts
+        (record { link = link_call L.Link link.old link.new; out = sink_call S.Sink out.old out.new }) result }
+{
+    match Server::new(alloc, setting.plan, shard) {
+        Err(_) => ServeEnd::NoMemory,
+        Ok(server) => {
+            let mut server_node = first_node(KeptServer::unkept(server));
+            serve_from(
+                alloc,
+                setting,
+                shard,
+                &mut server_node,
+                &[],
+                counts,
+                link,
+                turns,
+                out,
+                disk,
+            )
+        }
+    }
+}
+
+// Serves with the journal of a name.
+fn serve_kept<L: Link, S: Sink, D: Disk>(
+    alloc: Global,
+    setting: Setting<'_>,
+    shard: Shard,
+    counts: bool,
+    link: &mut L,
+    turns: u32,
+    out: &mut S,
+    name: &str,
+    disk: &mut D,
+) -> ServeEnd
+    requires cluster { length setting.cluster.now ≡ setting.plan.now.program.shards }
+    requires shard { shard.0 < setting.plan.now.program.shards }
+    requires header { FitsHeader setting.header.now }
+    ensures link_cause { HasCause (serve_link_failed result) (L.faults link.old) (L.faults link.new) }
+    ensures link_stays { serve_refused result ≡ true → link.new ≡ link.old }
+    ensures sink_cause { HasCause (serve_sink_failed result) (S.faults out.old) (S.faults out.new) }
+    ensures disk_cause { HasCause (serve_disk_failed result) (D.faults disk.old) (D.faults disk.new) }
+    ensures disk_told { D.tells disk.new ≡ true → D.tells disk.old ≡ true }
+    ensures serves { (own : Addr) → slice_get setting.entry.cluster.now shard.0 ≡ Some own
+        → ServesKept D.Disk disk.old disk.new name.now (setting_of setting.entry) shard own turns counts
+        (record { link = link_call L.Link link.old link.new; out = sink_call S.Sink out.old out.new }) result }
+{
+    match KeptServer::open(alloc, setting.plan, setting.header.tag, shard, name, disk) {
+        Err(fault) => end_of(fault),
+        Ok(server) => {
+            let mut server_node = first_node(server);
+            serve_opened(
+                alloc,
+                setting,
+                shard,
+                &mut server_node,
+                counts,
+                link,
+                turns,
+                out,
+                disk,
+            )
+        }
+    }
+}
+
+// How serving ends where no journal was opened.
+fn end_of(fault: OpenFault) -> ServeEnd
+    ensures { result ≡ end_of fault }
+{
+    match fault {
+        OpenFault::Journal(at) => ServeEnd::Journal(at),
+        OpenFault::Disk => ServeEnd::Disk,
+        OpenFault::NoMemory => ServeEnd::NoMemory,
+    }
+}
+
+// Serves from what was opened: one tick is sent before the first turn.
+fn serve_opened<L: Link, S: Sink, D: Disk>(
     alloc: Global,
     setting: Setting<'_>,
     shard: Shard,
@@ -81,18 +183,64 @@ fn serve_from<L: Link, S: Sink>(
     link: &mut L,
     turns: u32,
     out: &mut S,
+    disk: &mut D,
 ) -> ServeEnd
     requires cluster { length setting.cluster.now ≡ setting.plan.now.program.shards }
     requires shard { shard.0 < setting.plan.now.program.shards }
     requires header { FitsHeader setting.header.now }
-    requires first { server_node.old ≡ first_server_node setting.plan.now shard }
-    requires fits { ServingFits setting.plan.now server_node.old.server }
+    requires ready { IsOpen (setting_of setting) server_node.old.server }
+    requires first { IsFirstNode server_node.old }
     ensures link_cause { HasCause (serve_link_failed result) (L.faults link.old) (L.faults link.new) }
+    ensures opened { serve_refused result ≡ false }
     ensures sink_cause { HasCause (serve_sink_failed result) (S.faults out.old) (S.faults out.new) }
+    ensures calls { CallsDisk D.Disk disk.old disk.new server_node.old.server (serve_disk_failed result) (is_end_of_journal result) }
     ensures serves { (own : Addr) → slice_get setting.entry.cluster.now shard.0 ≡ Some own
-        → Serves (setting_of setting.entry) shard own turns counts
-        (record { link = link_call L.Link link.old link.new; out = sink_call S.Sink out.old out.new })
-        result }
+        → ComesOfServing D.Disk disk.old disk.new (setting_of setting.entry) (opened_node (setting_of setting.entry) server_node.old.server.server.state server_node.old.server.server.viewing)
+        shard own turns counts server_node.old.server
+        (record { link = link_call L.Link link.old link.new; out = sink_call S.Sink out.old out.new }) result }
+{
+    match take_silence(alloc, setting, server_node, disk) {
+        Err(NoMemory) => ServeEnd::NoMemory,
+        Ok(output) => serve_from(
+            alloc,
+            setting,
+            shard,
+            server_node,
+            &output.sends,
+            counts,
+            link,
+            turns,
+            out,
+            disk,
+        ),
+    }
+}
+
+// Serves from what a server keeps before any turn, and what it is to send then.
+fn serve_from<L: Link, S: Sink, D: Disk>(
+    alloc: Global,
+    setting: Setting<'_>,
+    shard: Shard,
+    server_node: &mut ServerNode,
+    sends: &[Datagram],
+    counts: bool,
+    link: &mut L,
+    turns: u32,
+    out: &mut S,
+    disk: &mut D,
+) -> ServeEnd
+    requires cluster { length setting.cluster.now ≡ setting.plan.now.program.shards }
+    requires shard { shard.0 < setting.plan.now.program.shards }
+    requires header { FitsHeader setting.header.now }
+    requires ready { IsOpen (setting_of setting) server_node.old.server }
+    ensures link_cause { HasCause (serve_link_failed result) (L.faults link.old) (L.faults link.new) }
+    ensures opened { serve_refused result ≡ false }
+    ensures sink_cause { HasCause (serve_sink_failed result) (S.faults out.old) (S.faults out.new) }
+    ensures calls { CallsDisk D.Disk disk.old disk.new server_node.old.server (serve_disk_failed result) (is_end_of_journal result) }
+    ensures serves { (own : Addr) → slice_get setting.entry.cluster.now shard.0 ≡ Some own → (messages : List Outgoing)
+        → ComesOfServing D.Disk disk.old disk.new (setting_of setting.entry) (node_of server_node.old messages (map sending sends.now) false)
+        shard own turns counts server_node.old.server
+        (record { link = link_call L.Link link.old link.new; out = sink_call S.Sink out.old out.new }) result }
 {
     let first = match first_text(alloc, shard) {
         Ok(first) => first,
@@ -106,10 +254,12 @@ fn serve_from<L: Link, S: Sink>(
         Written::Failed => return ServeEnd::SinkFault,
         Written::Ok => {}
     }
-    match run_turns(alloc, setting, shard, server_node, link, turns) {
+    match run_turns(alloc, setting, server_node, sends, link, turns, disk) {
         RunEnd::Over(stopped) => close(alloc, shard, stopped, counts, server_node, out),
         RunEnd::NoMemory => ServeEnd::NoMemory,
         RunEnd::LinkFault => ServeEnd::LinkFault,
+        RunEnd::Full => ServeEnd::Full,
+        RunEnd::Disk => ServeEnd::Disk,
     }
 }
 
@@ -126,17 +276,16 @@ fn own_header(plan: &Plan, tag: [u8; 8], shard: Shard) -> Header
     }
 }
 
-// What a server keeps before any turn.
-fn open_server_node(alloc: Global, plan: &Plan, shard: Shard) -> Result<ServerNode, NoMemory>
-    ensures first { IfOk result (λ server_node. server_node ≡ first_server_node plan.now shard) }
-    ensures fits { IfOk result (λ server_node. ServingFits plan.now server_node.server) }
+// What a server's node keeps before any turn.
+fn first_node(server: KeptServer) -> ServerNode
+    ensures server { result.server ≡ server }
+    ensures first { IsFirstNode result }
 {
-    let server = Server::new(alloc, plan, shard)?;
-    Ok(ServerNode {
+    ServerNode {
         server,
         heard: Heard::new(),
         counts: Counts::new(),
-    })
+    }
 }
 
 // The text of the first line.
@@ -159,6 +308,8 @@ fn close<S: Sink>(
 ) -> ServeEnd
     ensures cause { HasCause (serve_sink_failed result) (S.faults out.old) (S.faults out.new) }
     ensures link { serve_link_failed result ≡ false }
+    ensures opened { serve_refused result ≡ false }
+    ensures journal { is_end_of_journal result ≡ false }
     ensures closes { ClosesServe result (node_lines_text (end_lines shard stopped counts server_node.now.counts)) (S.taken out.old) (S.taken out.new) }
 {
     let mut text = Vec::new(alloc);

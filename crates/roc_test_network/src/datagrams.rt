@@ -67,6 +67,13 @@ pub(crate) const COMMIT_BEHIND_SECOND: &[u8] =
 pub(crate) const COMMIT_BEHIND_FIRST: &[u8] =
     b"RCO1\x02\x03tagoften\x01\0\x01\0\x01\0\0\0\0\0\x01\0\0\0\0\0\0\x01\0\0\0";
 
+/// A commit of 0.0 with an immediate edge from 1.0, which shard 1 has told.
+pub(crate) const COMMIT_BEHIND_OTHER_SHARD: &[u8] =
+    b"RCO1\x02\x03tagoften\x01\0\0\0\0\0\0\0\0\0\x01\0\x01\0\0\0\0\x01\x01\0\0";
+
+/// Shard 0 asks for the list of 1.0.
+pub(crate) const FETCH_OF_SECOND: &[u8] = b"RCO1\x02\x05tagoften\0\0\0\0\x01\0\0\0\0\0";
+
 /// Shard 63 asks for the list of 0.0.
 pub(crate) const FETCH_OF_FIRST: &[u8] = b"RCO1\x02\x05tagoften\0\0?\0\0\0\0\0\0?";
 

@@ -6,6 +6,8 @@ mod datagrams;
 #[cfg(test)]
 mod families;
 #[cfg(test)]
+mod keeping;
+#[cfg(test)]
 mod local;
 #[cfg(test)]
 mod outside;

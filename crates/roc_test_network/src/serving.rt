@@ -8,6 +8,8 @@ use crate::datagrams::{
 use crate::outside::{Failing, Outside, Seen, have_seen, outside_of};
 use crate::workloads::{BANK, COUNTER, FIRST_SHARD, Texts};
 use roc_base::Shard;
+use roc_disk::Disk;
+use roc_disk_memory::CalmDisk;
 use roc_io::Addr;
 use roc_node_serve::{ServeEnd, serve};
 use std::alloc::Global;
@@ -34,14 +36,16 @@ const OTHER_CALLER: Addr = Addr {
     port: 9001,
 };
 
-// Serves shard 0.
-fn serve_first(
+/// Serves shard 0, with the journal of a name or without one.
+pub(crate) fn serve_first<D: Disk>(
     rt: &impl Abort,
     alloc: Global,
     texts: Texts,
     counts: bool,
     outside: &mut Outside,
     turns: u32,
+    journal: Option<&str>,
+    disk: &mut D,
 ) -> Result<ServeEnd, Fail> {
     let plan = texts.plan(alloc)?;
     let cluster = texts.cluster_of(alloc, &plan)?;
@@ -59,6 +63,8 @@ fn serve_first(
         link,
         turns,
         out,
+        journal,
+        disk,
     ))
 }
 
@@ -70,7 +76,11 @@ fn check_run(
     case: &Case,
     outside: &mut Outside,
 ) -> Result<(), Fail> {
-    let end = serve_first(rt, alloc, texts, counts, outside, case.turns)?;
+    let mut disk = CalmDisk::new(alloc);
+    let end = serve_first(
+        rt, alloc, texts, counts, outside, case.turns, None, &mut disk,
+    )?;
+    assert!(rt; disk.bytes().is_empty());
     let name = case.seen.name;
     assert_eq!(rt; end, case.end, "{name}");
     have_seen(rt, outside, case.seen)

@@ -1,6 +1,9 @@
-use Rattle.std.proofs.Common.{Some, ap, sym, ◌∙◌}
+use Rattle.std.proofs.Common.{[], Some, ap, sym, ◌∙◌}
 use Rattle.std.specs.Prelude.{filter}
+use Rattle.roc_step.specs.First.{first_server}
+use Rattle.roc_step.specs.Reads.{first_viewing}
 use Rattle.roc_step.specs.State.{Viewing}
+use Rattle.roc_node_serve.specs.ServerRun.{first_server_node_state}
 use Rattle.roc_law_nodes.specs.Turns.{is_for_core}
 use Rattle.roc_law_nodes.proofs.WorldFolds.{server_fold, coord_fold}
 use Rattle.roc_law_nodes.proofs.OneFold.{one_server_fold, one_coord_fold}
@@ -12,7 +15,8 @@ use Rattle.roc_law_nodes.proofs.laws.node_runs_are_the_world.Goals as goal
 pub returns-clause-servers : goal.returns-clause-servers
 returns-clause-servers c S coords steps w run shard s there events n ran are =
     let world = server_fold S.plan coords run shard s there in
-    let one = one_server_fold S.plan (c.step_is_one.ensures S.plan) (c.read_step_is_one.ensures S.plan) shard (run_folds S shard ran) (without_stops S.plan shard world.2)
+    let one = one_server_fold S.plan (c.step_is_one.ensures S.plan) (c.read_step_is_one.ensures S.plan) (first_server S.plan shard) first_viewing []
+    (run_folds S (first_server_node_state S.plan shard) ran) (without_stops S.plan (first_server S.plan shard) first_viewing [] world.2)
     (ap (filter is_for_core) (turns_of c.spelled_is_read.ensures S.header.tag are)) in
     (one.0, world.1 ∙ ap (λ (v : Viewing). Some v) (sym one.1), one.2)
 

@@ -1,12 +1,18 @@
-use Rattle.std.proofs.Common.{inr, refl}
-use Rattle.roc_node_serve.specs.declared.ends.ServeEnd.TheVariants as end
-use Rattle.roc_node_serve.specs.ServeEnd.{unbound}
-use Rattle.roc_node.proofs.Moving.{Moves-none}
-use Rattle.roc_node_serve.proofs.Served.{ends_headed}
+use Rattle.std.proofs.Common.{Bor, List, Some, None, ℕ, ap}
+use Rattle.std.specs.Prelude.{option_map}
+use Rattle.roc_node_serve.proofs.Opened.{served_headed, served_named}
 use Rattle.roc_node_serve.proofs.serving.serve.Goals as goal
 
-pub returns-in-Err-clause-serves : goal.returns-in-Err-clause-serves
-returns-in-Err-clause-serves g c = λ own at. unbound end.NoMemory (inr refl) refl (Moves-none _ _ refl refl refl refl) refl
+pub returns-in-None-clause-serves : goal.returns-in-None-clause-serves
+returns-in-None-clause-serves g c = λ own at.
+    served_named _ _ _ _ None _ _ _ _ _ _ _ (ap (option_map (λ (n : Bor (List ℕ)). n.now)) c.in-None.is)
+    (served_headed g.D.Disk c.args.disk.now c.serve_unkept.new.disk None c.args.plan.now c.args.cluster.now c.own_header-header.result _ c.args.shard own
+    c.args.turns c.args.counts _ c.serve_unkept.result
+    c.own_header-header.ensures.is (c.serve_unkept.ensures.serves own at))
 
-pub returns-in-Ok-clause-serves : goal.returns-in-Ok-clause-serves
-returns-in-Ok-clause-serves g c = λ own at. ends_headed _ _ _ _ _ _ _ _ _ _ c.own_header-header.ensures.is (c.serve_from.ensures.serves own at)
+pub returns-in-Some-clause-serves : goal.returns-in-Some-clause-serves
+returns-in-Some-clause-serves g c = λ own at.
+    served_named _ _ _ _ (Some c.in-Some.name.now) _ _ _ _ _ _ _ (ap (option_map (λ (n : Bor (List ℕ)). n.now)) c.in-Some.is)
+    (served_headed g.D.Disk c.args.disk.now c.serve_kept.new.disk
+    (Some c.in-Some.name.now) c.args.plan.now c.args.cluster.now c.own_header-header.result _ c.args.shard own c.args.turns c.args.counts _ c.serve_kept.result
+    c.own_header-header.ensures.is (c.serve_kept.ensures.serves own at))
