@@ -2,14 +2,14 @@
 use Rattle.std.proofs.Common.{◌≡◌, ◌⊎◌, inl, inr, ℕ, ◌≤◌, ◌==◌, Bool, IsTrue, true, false, List, [], ◌∷◌, Option, Result, Ok, Err, refl, sym, ap, subst, ◌∙◌, arith}
 use Rattle.roc_io.specs.Cause.{HasCause}
 use Rattle.roc_cli_files.specs.declared.fault.Fault.{Fault}
-use Rattle.roc_cli_files.specs.declared.fault.Fault.TheVariants.{Rejected, Refused, Value, NoShard, Memory, Unanswered, File, Sink, Link, Child}
+use Rattle.roc_cli_files.specs.declared.fault.Fault.TheVariants.{Rejected, Refused, Value, NoShard, Journal, Memory, Unanswered, File, Sink, Link, Child, Disk, Full}
 use Rattle.roc_cli_files.specs.Says.{Errors}
 use Rattle.roc_cli_words.specs.declared.value.Part.{Part}
 use Rattle.roc_cli_nodes.specs.Call.{RunCall}
-use Rattle.roc_cli_nodes.specs.Words.{NamesNodes}
-use Rattle.roc_cli.specs.Status.{IsOneOf, IsQuiet}
-use Rattle.roc_cli_files.specs.Fault.{IsTold, EndsWith, line_of, blames_file, blames_sink, blames_link, fails_by, ReadsBut}
-use Rattle.roc_cli_nodes.specs.Ends.{precedes_loop, CountsChildren}
+use Rattle.roc_cli_nodes.specs.Words.{NamesJournal, NamesNodes}
+use Rattle.roc_cli.specs.Status.{IsOneOf, IsQuiet, IsUnkept}
+use Rattle.roc_cli_files.specs.Fault.{IsTold, EndsWith, line_of, blames_file, blames_sink, blames_link, blames_disk, fails_by, ReadsBut}
+use Rattle.roc_cli_nodes.specs.Ends.{precedes_loop, precedes_journal, CountsChildren}
 use Rattle.roc_cli.specs.Inner.Ends.{Ends, GenEnds}
 
 counted_at : (status n wanted : ℕ) (test : Bool) (old new : ℕ) → status ≡ n → (n == wanted) ≡ test → HasCause test old new → HasCause (status == wanted) old new
@@ -37,6 +37,9 @@ file_counted Memory status err old new (e, says) h = counted_at status 4 6 false
 file_counted (File file) status err old new (e, says) h = counted_at status 6 6 true old new e refl h
 file_counted Sink status err old new (e, says) h = counted_at status 7 6 false old new e refl h
 file_counted Link status err old new (e, says) h = counted_at status 8 6 false old new e refl h
+file_counted (Journal file) status err old new (e, says) h = counted_at status 3 6 false old new e refl h
+file_counted (Disk file) status err old new (e, says) h = counted_at status 10 6 false old new e refl h
+file_counted (Full file) status err old new (e, says) h = counted_at status 11 6 false old new e refl h
 file_counted (Child shard own) status err old new told h = child_counted (line_of (Child shard own)) status 6 err old new refl refl told h
 file_counted fault status err old new told h = refusal_counted (line_of fault) status 6 err old new refl refl told h
 
@@ -50,6 +53,9 @@ sink_counted Memory status err old new (e, says) h = counted_at status 4 7 false
 sink_counted (File file) status err old new (e, says) h = counted_at status 6 7 false old new e refl h
 sink_counted Sink status err old new (e, says) h = counted_at status 7 7 true old new e refl h
 sink_counted Link status err old new (e, says) h = counted_at status 8 7 false old new e refl h
+sink_counted (Journal file) status err old new (e, says) h = counted_at status 3 7 false old new e refl h
+sink_counted (Disk file) status err old new (e, says) h = counted_at status 10 7 false old new e refl h
+sink_counted (Full file) status err old new (e, says) h = counted_at status 11 7 false old new e refl h
 sink_counted (Child shard own) status err old new told h = child_counted (line_of (Child shard own)) status 7 err old new refl refl told h
 sink_counted fault status err old new told h = refusal_counted (line_of fault) status 7 err old new refl refl told h
 
@@ -63,8 +69,27 @@ link_counted Memory status err old new (e, says) h = counted_at status 4 8 false
 link_counted (File file) status err old new (e, says) h = counted_at status 6 8 false old new e refl h
 link_counted Sink status err old new (e, says) h = counted_at status 7 8 false old new e refl h
 link_counted Link status err old new (e, says) h = counted_at status 8 8 true old new e refl h
+link_counted (Journal file) status err old new (e, says) h = counted_at status 3 8 false old new e refl h
+link_counted (Disk file) status err old new (e, says) h = counted_at status 10 8 false old new e refl h
+link_counted (Full file) status err old new (e, says) h = counted_at status 11 8 false old new e refl h
 link_counted (Child shard own) status err old new told h = child_counted (line_of (Child shard own)) status 8 err old new refl refl told h
 link_counted fault status err old new told h = refusal_counted (line_of fault) status 8 err old new refl refl told h
+
+pub disk_counted : (fault : Fault) (status : ℕ) (err : Errors) (old new : ℕ) → IsTold fault status err → HasCause (blames_disk fault) old new → HasCause (status == 10) old new
+disk_counted Rejected status err old new e h = counted_at status 1 10 false old new e refl h
+disk_counted Unanswered status err old new e h = counted_at status 5 10 false old new e refl h
+disk_counted (Refused text) status err old new (e, says) h = counted_at status 2 10 false old new e refl h
+disk_counted (Value name) status err old new (e, says) h = counted_at status 2 10 false old new e refl h
+disk_counted NoShard status err old new (e, says) h = counted_at status 2 10 false old new e refl h
+disk_counted Memory status err old new (e, says) h = counted_at status 4 10 false old new e refl h
+disk_counted (File file) status err old new (e, says) h = counted_at status 6 10 false old new e refl h
+disk_counted Sink status err old new (e, says) h = counted_at status 7 10 false old new e refl h
+disk_counted Link status err old new (e, says) h = counted_at status 8 10 false old new e refl h
+disk_counted (Journal file) status err old new (e, says) h = counted_at status 3 10 false old new e refl h
+disk_counted (Disk file) status err old new (e, says) h = counted_at status 10 10 true old new e refl h
+disk_counted (Full file) status err old new (e, says) h = counted_at status 11 10 false old new e refl h
+disk_counted (Child shard own) status err old new told h = child_counted (line_of (Child shard own)) status 10 err old new refl refl told h
+disk_counted fault status err old new told h = refusal_counted (line_of fault) status 10 err old new refl refl told h
 
 -- ---- statuses that come before any node runs
 
@@ -82,7 +107,26 @@ told_early Sink status err (e, says) h = absurd (early_is_not 7 status (omega ar
 told_early (Child shard own) status err (inl (e, says)) h = absurd (early_is_not 9 status (omega arith, λ f. absurd (omega arith)) e h)
 told_early (Child shard own) status err (inr (e, says)) h = absurd (early_is_not 4 status (omega arith, λ f. absurd (omega arith)) e h)
 told_early Link status err (e, says) h = absurd (early_is_not 8 status (omega arith, λ f. absurd (omega arith)) e h)
+told_early (Disk file) status err (e, says) h = absurd (early_is_not 10 status (omega arith, λ f. absurd (omega arith)) e h)
+told_early (Full file) status err (e, says) h = absurd (early_is_not 11 status (omega arith, λ f. absurd (omega arith)) e h)
 told_early _ status err told h = refl
+
+-- ..and before any journal is opened
+opened_is_not : (status : ℕ) → status ≡ 3 → IsOneOf (1 ∷ 2 ∷ 6 ∷ []) status → ⊥
+opened_is_not status e (inl f) = absurd (omega (arith, e, f))
+opened_is_not status e (inr (inl f)) = absurd (omega (arith, e, f))
+opened_is_not status e (inr (inr (inl f))) = absurd (omega (arith, e, f))
+opened_is_not status e (inr (inr (inr none))) = none
+
+early_among : (status : ℕ) → IsOneOf (1 ∷ 2 ∷ 6 ∷ []) status → IsOneOf (1 ∷ 2 ∷ 3 ∷ 6 ∷ []) status
+early_among status (inl f) = inl f
+early_among status (inr (inl f)) = inr (inl f)
+early_among status (inr (inr (inl f))) = inr (inr (inr (inl f)))
+early_among status (inr (inr (inr none))) = absurd none
+
+told_unopened : (fault : Fault) (status : ℕ) (err : Errors) → IsTold fault status err → IsOneOf (1 ∷ 2 ∷ 6 ∷ []) status → IsTrue (precedes_journal fault)
+told_unopened (Journal file) status err (e, says) h = absurd (opened_is_not status e h)
+told_unopened fault status err told h = told_early fault status err told (early_among status h)
 
 -- what is done is quiet where the words are without nodes
 pub quiet_done : (words : List (List ℕ)) (P : Type 0) → ((NamesNodes words → ⊥) → P) → IsQuiet words 0 → P
@@ -99,6 +143,19 @@ pub quiet_told : (words : List (List ℕ)) (fault : Fault) (status : ℕ) (err :
 quiet_told words fault status err P told without before (inl none) = without none
 quiet_told words fault status err P told without before (inr early) = before (told_early fault status err told early)
 
+-- what is done, or told, leaves the disk where words name no journal, or it came before any was opened
+pub unkept_done : (words : List (List ℕ)) (P : Type 0) → (((name : List ℕ) → NamesJournal words name → ⊥) → P) → IsUnkept words 0 → P
+unkept_done words P without (inl none) = without none
+unkept_done words P without (inr (inl e)) = absurd (omega arith)
+unkept_done words P without (inr (inr (inl e))) = absurd (omega arith)
+unkept_done words P without (inr (inr (inr (inl e)))) = absurd (omega arith)
+unkept_done words P without (inr (inr (inr (inr none)))) = absurd none
+
+pub unkept_told : (words : List (List ℕ)) (fault : Fault) (status : ℕ) (err : Errors) (P : Type 0) → IsTold fault status err → (((name : List ℕ) → NamesJournal words name → ⊥) → P)
+    → (IsTrue (precedes_journal fault) → P) → IsUnkept words status → P
+unkept_told words fault status err P told without before (inl none) = without none
+unkept_told words fault status err P told without before (inr early) = before (told_unopened fault status err told early)
+
 -- without children none is counted
 pub none_counted : (result : Result Unit Fault) (n : ℕ) → CountsChildren result n n
 none_counted (Ok done) n = refl
@@ -109,6 +166,12 @@ pub unlinked : (call : RunCall) (result : Result Unit Fault) (n : ℕ) → Ends 
 unlinked call (Ok done) n h = refl
 unlinked call (Err Link) n h = absurd h
 unlinked call (Err _) n h = refl
+
+-- ..and no disk
+pub undisked : (call : RunCall) (result : Result Unit Fault) (n : ℕ) → Ends call result → HasCause (fails_by blames_disk result) n n
+undisked call (Ok done) n h = refl
+undisked call (Err (Disk file)) n h = absurd h
+undisked call (Err _) n h = refl
 
 -- what is to blame for nothing counts nothing
 pub uncounted : (test : Bool) (n : ℕ) → test ≡ false → HasCause test n n

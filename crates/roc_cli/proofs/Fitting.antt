@@ -11,8 +11,6 @@ use Rattle.roc_program.specs.Program.{Workload}
 use Rattle.roc_lang_resolve.specs.Resolve.{resolved}
 use Rattle.roc_plan.specs.Groups.{Plan}
 use Rattle.roc_io.specs.declared.link.Addr.{Addr}
-use Rattle.roc_views.specs.World.{World}
-use Rattle.roc_views.specs.Run.{Stepped}
 use Rattle.roc_cluster.specs.declared.fault.ClusterFault.{ClusterFault}
 use Rattle.roc_cluster.specs.declared.fault.ClusterFault.TheVariants as cluster_fault
 use Rattle.roc_cluster.specs.File.{IsClusterFile}
@@ -24,7 +22,7 @@ use Rattle.roc_sched.specs.declared.line.Request.{Request}
 use Rattle.roc_replay.specs.declared.asked.BoundLine.{BoundLine}
 use Rattle.roc_sched.specs.Schedule.{most_bytes, AreRequests, IsRequestFault}
 use Rattle.roc_replay.specs.BoundLine.{IsScheduleOf}
-use Rattle.roc_replay.specs.Played.{IsPlayed, DeliversOnlySent}
+use Rattle.roc_replay.specs.Played.{IsPlayed, AsksOnlySent}
 use Rattle.roc_replay.specs.Ended.{IsTextFault}
 use Rattle.roc_cli_words.specs.declared.value.Part.{Part}
 use Rattle.roc_cli_words.specs.declared.value.ValueName.{ValueName}
@@ -36,6 +34,7 @@ use Rattle.roc_cli_files.specs.Held.{NodeFiles, Holds, HoldsMore, HoldsPlan, Hol
 use Rattle.roc_cli.specs.Refused.{AreRefusedWords, by_clap, no_value, no_shard, IsRefused, long_workload, no_text, out_of_scope, long_schedule, bad_schedule, long_cluster, bad_cluster, long_requests, bad_requests}
 use Rattle.roc_cli.specs.Fit.{ReplayFits, PrintFits, CheckFits, IsFit}
 use Rattle.roc_cli.specs.Inner.Faultless.{IsFaultless}
+use Rattle.roc_cli.specs.Inner.Texts.{TextLaws}
 use Rattle.roc_cli_nodes.proofs.Naming.{unlike, same_name, no_name, as_workload, replay_schedule}
 
 -- ---- what a file holds
@@ -48,22 +47,6 @@ told content name other bytes held is same h =
 pub told_more : (content : List ℕ → Option (List ℕ)) (name other bytes : List ℕ) (most : ℕ) → content name ≡ Some bytes → other ≡ name → HoldsMore content other most → most < length bytes
 told_more content name other bytes most is same h =
     subst (λ o. IfSome o (λ b. most < length b)) is (subst (λ n. HoldsMore content n most) same h)
-
--- ---- texts
-
--- what is known of texts, plans and schedules
-pub record TextLaws : Type 0 where
-  pub one_tree : (bytes : List ℕ) (t u : Tree) → IsWorkloadText bytes t → IsWorkloadText bytes u → t ≡ u
-  pub no_fault : (bytes : List ℕ) (t : Tree) (line : ℕ) (what : What) → IsWorkloadText bytes t → IsFirstFault bytes line what → ⊥
-  pub one_plan : (bytes : List ℕ) (one other : Plan) → IsPlanOfText bytes one → IsPlanOfText bytes other → one ≡ other
-  pub no_refusal : (program : Workload) (plan : Plan) (line : Line) → IsPlanOf program plan → IsRefusedBy program line → ⊥
-  pub no_cluster_fault : (shards : ℕ) (bytes : List ℕ) (cluster : List Addr) (fault : ClusterFault) → IsClusterFile shards bytes cluster → IsClusterFault shards bytes fault → fault ≡ cluster_fault.NoMemory
-  pub one_list : (text : List ℕ) (some others : List Request) → AreRequests text some → AreRequests text others → some ≡ others
-  pub no_list_fault : (text : List ℕ) (requests : List Request) (line : ℕ) (what : ScheduleWhat) → AreRequests text requests → IsRequestFault text line what → ⊥
-  pub no_text_fault :
-      (plan : Plan) (text : List ℕ) (lines : List BoundLine) → IsScheduleOf plan.program text lines → DeliversOnlySent plan lines
-      → (number : ℕ) (fault : ScheduleWhat) (old new : Option (List ℕ)) → IsTextFault plan text number fault old new → ⊥
-  pub sent : (plan : Plan) (lines : List BoundLine) (steps : List Stepped) (w : World) → IsPlayed plan lines steps w → DeliversOnlySent plan lines
 
 -- ---- words
 

@@ -15,12 +15,12 @@ use Rattle.roc_cluster.specs.Answer.{IsFirstIn, IsClusterFault}
 use Rattle.roc_sched.specs.declared.fault.What.{What}
 use Rattle.roc_sched.specs.declared.line.Request.{Request}
 use Rattle.roc_sched.specs.Schedule.{most_bytes}
-use Rattle.roc_node_submit.specs.declared.ends.SubmitEnd.{SubmitEnd}
 use Rattle.roc_cli_words.specs.Commands.{check, print, replay, serve, submit, stop, local, gen}
 use Rattle.roc_cli_nodes.specs.Call.{RunCall, WholeCall}
 use Rattle.roc_cli_nodes.specs.Words.{IsReplay, node_files, workload_of, NamesProgram, NamesWorkload, NamesNodeFiles}
 use Rattle.roc_cli_files.specs.Held.{NodeFiles, HasShard, HoldsPlan, HoldsRejected, HoldsNoCluster, HoldsNoRequests}
 use Rattle.roc_cli_files.specs.Requests.{request_fault, FitEach, IsFirstUnfitRequest, IsRequestsFault, no_requests, unfit_request}
+use Rattle.roc_cli_nodes.specs.NodeEnds.{NodesEnd}
 use Rattle.roc_cli_nodes.specs.Nodes.{AreNodesEnded, IsChildBlamed}
 use Rattle.roc_cli.specs.Stopped.{CutsOutput, in_report, in_text, in_check, in_rejection, in_generated}
 use Rattle.roc_cli.specs.Refused.{AreRefusedWords, by_clap, no_value, no_shard, IsRefused, long_workload, no_text, out_of_scope, long_schedule, bad_schedule, long_cluster, bad_cluster, long_requests, bad_requests}
@@ -28,7 +28,8 @@ use Rattle.roc_cli.specs.Fit.{IsListOfRequests, NodeFilesFit, NodesFit, MissesSh
 use Rattle.roc_cli.specs.Inner.Ends.{Ends}
 use Rattle.roc_cli.specs.Inner.Faultless.{IsFaultless, IsShardless}
 use Rattle.roc_cli_nodes.proofs.Naming.{same_name, no_name, as_workload, as_program}
-use Rattle.roc_cli.proofs.Fitting.{TextLaws, told, told_more, not_long, not_faulty, in_scope, same_plan, not_rejected, no_such_value}
+use Rattle.roc_cli.specs.Inner.Texts.{TextLaws}
+use Rattle.roc_cli.proofs.Fitting.{told, told_more, not_long, not_faulty, in_scope, same_plan, not_rejected, no_such_value}
 
 -- what holds of each holds of the one behind some
 pub at_behind : {A : Type 0} (P : A → Type 0) (before : List A) (x : A) (behind : List A) → AllByRecursion P (before ++ x ∷ behind) → P x
@@ -139,13 +140,13 @@ module _ (laws : TextLaws) (call : WholeCall) (missing : MissesShard call.run) w
   missing_uncut (in_generated seed shards txns part text given generated front) = no_name node_files call.run.words (gen seed shards txns part) given refl missing.right.files missing.right.given
   missing_uncut (in_rejection workload program said names held front) = no_rejection laws call.run missing.right workload program said names held
 
-  missing_unrun : (end : SubmitEnd) → AreNodesEnded call end → ⊥
-  missing_unrun end (inl (own, e, h)) =
-      nowhere _ h.plan (serve h.workload h.cluster h.shard h.turns h.counts, h.given, refl) (record { bytes = h.bytes; held = h.held.of_workload; is = h.held.planned }) h.held.has_shard
-  missing_unrun end (inr (inl h)) =
+  missing_unrun : (end : NodesEnd) → AreNodesEnded call end → ⊥
+  missing_unrun end (inl (own, h, e)) =
+      nowhere _ h.plan (serve h.workload h.cluster h.shard h.turns h.counts h.journal, h.given, refl) (record { bytes = h.bytes; held = h.held.of_workload; is = h.held.planned }) h.held.has_shard
+  missing_unrun end (inr (inl (own, e, h))) =
       none-some missing.number (ap (λ (f : NodeFiles). f.shard) (same_files _ (submit h.workload h.cluster h.listed h.coord h.turns, h.given, refl)) ∙ missing.asked)
   missing_unrun end (inr (inr (inl (own, e, h)))) = none-some missing.number (ap (λ (f : NodeFiles). f.shard) (same_files _ (stop h.workload h.cluster, h.given, refl)) ∙ missing.asked)
-  missing_unrun end (inr (inr (inr h))) = none-some missing.number (ap (λ (f : NodeFiles). f.shard) (same_files _ (local h.workload h.cluster h.listed h.turns, h.given, refl)) ∙ missing.asked)
+  missing_unrun end (inr (inr (inr (own, e, h)))) = none-some missing.number (ap (λ (f : NodeFiles). f.shard) (same_files _ (local h.workload h.cluster h.listed h.turns, h.given, refl)) ∙ missing.asked)
 
   missing_no_child : (shard : Shard) (status : Option ℕ) → IsChildBlamed call shard status → ⊥
   missing_no_child shard status h =

@@ -6,4 +6,6 @@ pub mod FittingNodes
 pub mod Loads
 pub mod Counts
 pub mod Told
+pub mod Finished
+pub mod Fits
 pub mod Unfitting

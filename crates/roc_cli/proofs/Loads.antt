@@ -7,19 +7,19 @@ use Rattle.roc_program.specs.Program.{Workload}
 use Rattle.roc_program.specs.LookUps.{procedure_named}
 use Rattle.roc_plan.specs.Groups.{Plan}
 use Rattle.roc_protocol.specs.declared.event.Event.TheVariants as event
+use Rattle.roc_views.specs.World.{World}
 use Rattle.roc_sched.specs.declared.fault.What.{What}
 use Rattle.roc_sched.specs.declared.fault.What.TheVariants as what
 use Rattle.roc_sched.specs.declared.line.Act.{Act}
 use Rattle.roc_sched.specs.declared.line.Act.TheVariants as act
 use Rattle.roc_sched.specs.declared.line.Line.{Line}
 use Rattle.roc_sched.specs.declared.forms.Forms.{Forms}
-use Rattle.roc_sched.specs.Forms.{plain_forms}
 use Rattle.roc_sched.specs.Schedule.{IsSchedule, IsScheduleFault, item_of}
 use Rattle.roc_generate.specs.Load.{IsCallOrChoice, IsLoadOf}
 use Rattle.roc_replay.specs.declared.asked.BoundLine.{BoundLine}
 use Rattle.roc_replay.specs.declared.asked.Wanted.{Wanted}
 use Rattle.roc_replay.specs.declared.asked.Wanted.TheVariants as wanted
-use Rattle.roc_replay.specs.BoundLine.{arguments_of, submission_of, wanted_by, numbered, asked_by}
+use Rattle.roc_replay.specs.BoundLine.{played_forms, arguments_of, submission_of, wanted_by, numbered, asked_by, AsksForSent}
 use Rattle.roc_replay.specs.Ended.{IsReplayed, IsTextFault, no_schedule, unfit, unsent}
 use Rattle.roc_replay.proofs.Schedules.{each_made}
 use Rattle.roc_check.specs.Checked.{IsPlanOfText}
@@ -32,9 +32,9 @@ use Rattle.roc_cli_words.specs.declared.value.Part.TheVariants as part
 use Rattle.roc_cli.specs.Done.{IsGenerated, the_workload, the_schedule, the_run}
 use Rattle.roc_cli.proofs.FittingNodes.{at_behind}
 
--- no message is named
+-- no message is named, so that none can lack
 abbrev NamesNone : Wanted → Type 0
-NamesNone w = (message : ℕ) → w ≡ wanted.Event (event.Deliver message) → ⊥
+NamesNone a = (w : World) → AsksForSent w a
 
 module _ (program : Workload) where
   -- what a call or a choice asks for
@@ -45,9 +45,9 @@ module _ (program : Workload) where
       ∙ ap (λ b. if b then Ok (wanted.Event (event.Submit coord proc args)) else Err what.Arguments) (eq-eqb (length args) (arguments_of program proc) count)
 
   wants : (a : Act) → IsCallOrChoice program a → (w : Wanted) × (wanted_by program a ≡ Ok w) × NamesNone w
-  wants (act.Submit coord name args) h = (wanted.Event (event.Submit coord h.1.0 args), submission_is coord args (procedure_named program name) h.1.0 h.1.1 h.1.2, λ message e. absurd (cc))
+  wants (act.Submit coord name args) h = (wanted.Event (event.Submit coord h.1.0 args), submission_is coord args (procedure_named program name) h.1.0 h.1.1 h.1.2, λ w. tt)
   wants (act.Deliver message) h = absurd h
-  wants (act.Any place) h = (wanted.Any place, refl, λ message e. absurd (cc))
+  wants (act.Any place) h = (wanted.Any place, refl, λ w. tt)
   wants (act.Tick node) h = absurd h
   wants (act.Stop shard during) h = absurd h
   wants (act.Drain coord) h = absurd h
@@ -69,16 +69,17 @@ module _
     (one_of_both : (forms : Forms) (shards : ℕ) (text : List ℕ) (lines : List Line) (line : ℕ) (what : What) → IsSchedule forms shards text lines → IsScheduleFault forms shards text line what → ⊥)
     (plan : Plan) (text : List ℕ) (lines : List Line) (load : IsLoadOf plan.program text lines) where
   pub load_is_right : (number : ℕ) (fault : What) (old new : Option (List ℕ)) → IsTextFault plan text number fault old new → ⊥
-  load_is_right number fault old new (no_schedule is same) = one_of_both plain_forms plan.program.shards text lines number fault load.read is
+  load_is_right number fault old new (no_schedule is same) = one_of_both played_forms plan.program.shards text lines number fault (load.read true) is
   load_is_right number fault old new (unfit h same) =
-      let e : lines ≡ h.before ++ h.line ∷ h.behind = one_list plain_forms plan.program.shards text lines _ load.read h.schedule in
+      let e : lines ≡ h.before ++ h.line ∷ h.behind = one_list played_forms plan.program.shards text lines _ (load.read true) h.schedule in
       never_unfit plan.program h.line fault (at_behind (λ line. IsCallOrChoice plan.program line.act) h.before h.line h.behind (subst (AllByRecursion (λ line. IsCallOrChoice plan.program line.act)) e load.fits)) h.is
   load_is_right number fault old new (unsent is h) =
       let fits : AllByRecursion (λ line. IsCallOrChoice plan.program line.act) h.of_schedule.lines =
-      subst (AllByRecursion (λ line. IsCallOrChoice plan.program line.act)) (one_list plain_forms plan.program.shards text lines _ load.read h.of_schedule.schedule) load.fits in
-      at_behind (λ one. NamesNone one.wanted) h.before h.line h.behind
+      subst (AllByRecursion (λ line. IsCallOrChoice plan.program line.act)) (one_list played_forms plan.program.shards text lines _ (load.read true) h.of_schedule.schedule) load.fits in
+      h.unsent
+      (at_behind (λ one. NamesNone one.wanted) h.before h.line h.behind
       (each_made (λ line. item_of (asked_by plan.program line)) (λ line. IsCallOrChoice plan.program line.act) (λ one. NamesNone one.wanted) (never_named plan.program) h.of_schedule.lines _ fits h.of_schedule.asks)
-      h.message h.asks
+      h.world)
 
 -- ---- what is generated
 

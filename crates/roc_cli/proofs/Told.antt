@@ -1,28 +1,27 @@
 -- What the status says, where a fault was told
-use Rattle.std.proofs.Common.{◌≡◌, ◌⊎◌, inl, inr, ℕ, ◌≤◌, List, Option, codes, refl, sym, subst, ◌∙◌, arith, [], ◌∷◌, Ok, Err}
+use Rattle.std.proofs.Common.{◌≡◌, ◌⊎◌, inl, inr, ℕ, ◌≤◌, List, Option, codes, refl, sym, subst, ◌∙◌, arith, [], ◌∷◌, Err}
 use Rattle.roc_replay.specs.Ended.{no_schedule, unfit, unsent, behind_lines}
 use Rattle.roc_node_serve.specs.declared.ends.ServeEnd.TheVariants as serve_end
 use Rattle.roc_node_submit.specs.declared.ends.SubmitEnd.TheVariants as submit_end
+use Rattle.roc_cli_nodes.specs.NodeEnds as nodes_end
 use Rattle.roc_base.specs.declared.node.Shard.{Shard}
 use Rattle.roc_node_local.specs.declared.stops.StopEnd.TheVariants as stop_end
 use Rattle.roc_node_local.specs.declared.local.LocalEnd.TheVariants as local_end
-use Rattle.roc_cli_words.specs.Commands.{check, print, replay, serve, submit, stop, local, gen}
 use Rattle.roc_cli_files.specs.declared.fault.Fault.{Fault}
-use Rattle.roc_cli_files.specs.declared.fault.Fault.TheVariants.{Rejected, Refused, Value, NoShard, Memory, Unanswered, File, Sink, Link, Child}
+use Rattle.roc_cli_files.specs.declared.fault.Fault.TheVariants.{Rejected, Refused, Value, NoShard, Journal, Memory, Unanswered, File, Sink, Link, Child, Disk, Full}
 use Rattle.roc_cli_nodes.specs.Call.{RunCall, WholeCall, TakesNothing, ReadsAll}
-use Rattle.roc_cli_files.specs.Says.{Errors, Says, word_line, file_line, child_line}
-use Rattle.roc_cli_nodes.specs.Words.{AreReplayWords, ArePrintWords, AreCheckWords, AreGenWords, AreServeWords, AreSubmitWords, AreStopWords, AreLocalWords, AreCommandWords, NamesNodes, node_files}
+use Rattle.roc_cli_files.specs.Says.{Errors, Says, word_line, journal_line, file_line, child_line, disk_line, full_line}
+use Rattle.roc_cli_nodes.specs.Words.{AreReplayWords, ArePrintWords, AreCheckWords, AreGenWords, AreServeWords, AreSubmitWords, AreStopWords, AreLocalWords, AreCommandWords, NamesNodes}
 use Rattle.roc_cli.specs.Done.{Replays, Prints, Checks, Generates, Rejects}
-use Rattle.roc_cli_nodes.specs.Nodes.{ServeEnded, SubmitEnded, StopEnded, LocalEnded, AreNodesEnded, IsChildBlamed, BlamesAnyChild}
+use Rattle.roc_cli_nodes.specs.Nodes.{ServeEnded, SubmitEnded, StopEnded, LocalEnded, AreNodesEnded, IsServedWith, IsChildBlamed, BlamesAnyChild}
 use Rattle.roc_cli.specs.Stopped.{IsUnread, RunsOut, with_nothing, with_lines, CutsOutput}
-use Rattle.roc_cli.specs.Refused.{AreRefusedWords, IsRefused, long_workload, no_text, out_of_scope, long_schedule, bad_schedule, long_cluster, bad_cluster, long_requests, bad_requests}
+use Rattle.roc_cli.specs.Refused.{AreRefusedWords, IsRefused, RefusesJournal, long_workload, no_text, out_of_scope, long_schedule, bad_schedule, long_cluster, bad_cluster, long_requests, bad_requests}
 use Rattle.roc_cli.specs.Status.{IsOneOf, Answers}
 use Rattle.roc_cli.specs.Inner.Faultless.{IsFaultless, IsShardless, IsUndone, IsUnplanned, IsUnwritten, IsUnplayed, AreFitting}
 use Rattle.roc_cli_files.specs.Fault.{IsTold, EndsWith, line_of, Blames}
-use Rattle.roc_cli.specs.Inner.Ends.{RefusesWords, Fails, Ends, WholeEnds}
-use Rattle.roc_cli_nodes.proofs.Naming.{unlike, no_name}
+use Rattle.roc_cli.specs.Inner.Ends.{RefusesWords, Fails, WholeEnds}
 use Rattle.roc_cli_nodes.specs.Ends.{LoopEnded}
-use Rattle.roc_cli_nodes.proofs.Named.{nodes_named, child_named, nodes_words, serve_done, submit_done, stop_done, local_done}
+use Rattle.roc_cli_nodes.proofs.Named.{nodes_named, child_named, nodes_words, ended_by_journal, keeper_ended, keeper_named, keeper_words}
 use Rattle.roc_cli.proofs.Commands.{of_program, refused_words, input_words, cut_words, fit_names_no_nodes}
 
 -- ---- one fault, told
@@ -48,11 +47,14 @@ data IsFailure (call : WholeCall) : (status : ℕ) → (line : List ℕ) → Typ
   rejected : Rejects call.run → ReadsAll call.run → IsFailure call 1 (line_of Rejected)
   no_words : (line : List ℕ) → RefusesWords call.run line → ReadsAll call.run → IsFailure call 2 line
   refused : (line : List ℕ) → IsRefused call.run line → ReadsAll call.run → IsFailure call 3 line
-  memory : RunsOut call.run ⊎ (AreNodesEnded call submit_end.NoMemory ⊎ BlamesAnyChild call) → ReadsAll call.run → IsFailure call 4 (word_line (codes "memory"))
-  unanswered : AreNodesEnded call submit_end.Unanswered → ReadsAll call.run → IsFailure call 5 (line_of Unanswered)
+  memory : RunsOut call.run ⊎ (AreNodesEnded call nodes_end.NoMemory ⊎ BlamesAnyChild call) → ReadsAll call.run → IsFailure call 4 (word_line (codes "memory"))
+  unanswered : AreNodesEnded call nodes_end.Unanswered → ReadsAll call.run → IsFailure call 5 (line_of Unanswered)
+  no_journal : (name : List ℕ) → RefusesJournal call name → ReadsAll call.run → IsFailure call 3 (journal_line name)
+  disk : (name : List ℕ) → IsServedWith call name serve_end.Disk → ReadsAll call.run → IsFailure call 10 (disk_line name)
+  full : (name : List ℕ) → IsServedWith call name serve_end.Full → ReadsAll call.run → IsFailure call 11 (full_line name)
   unread : (name : List ℕ) → IsUnread call.run name → IsFailure call 6 (file_line name)
-  cut : CutsOutput call.run ⊎ AreNodesEnded call submit_end.SinkFault → ReadsAll call.run → IsFailure call 7 (word_line (codes "sink"))
-  cut_off : AreNodesEnded call submit_end.LinkFault → ReadsAll call.run → IsFailure call 8 (word_line (codes "link"))
+  cut : CutsOutput call.run ⊎ AreNodesEnded call nodes_end.SinkFault → ReadsAll call.run → IsFailure call 7 (word_line (codes "sink"))
+  cut_off : AreNodesEnded call nodes_end.LinkFault → ReadsAll call.run → IsFailure call 8 (word_line (codes "link"))
   child : (shard : Shard) (own : Option ℕ) → IsChildBlamed call shard own → ReadsAll call.run → IsFailure call 9 (child_line shard.0 own)
 
 -- a failure that was said, but for that of status 1 or 5, which is not said on standard error
@@ -90,6 +92,9 @@ module _ (call : WholeCall) (err : Errors) where
   said Sink status h read (e, says) = ended status 7 (line_of Sink) e says (cut (inl h) read)
   said Link status h read told = absurd h
   said (Child shard own) status h read told = absurd h
+  said (Journal file) status h read told = absurd h
+  said (Disk file) status h read told = absurd h
+  said (Full file) status h read told = absurd h
   said fault status h read told = said_refused status (line_of fault) h read told
 
   said_child : (status : ℕ) (shard : Shard) (own : Option ℕ) → IsChildBlamed call shard own → ReadsAll call.run
@@ -103,6 +108,10 @@ module _ (call : WholeCall) (err : Errors) where
   said_of_nodes Sink status h read (e, says) = ended status 7 (line_of Sink) e says (cut (inr h) read)
   said_of_nodes Link status h read (e, says) = ended status 8 (line_of Link) e says (cut_off h read)
   said_of_nodes (Child shard own) status h read told = said_child status shard own h read told
+  said_of_nodes (Journal file) status h read (e, says) =
+      ended status 3 (line_of (Journal file)) e says (no_journal file.now (ended_by_journal call (nodes_end.Journal file.now) h) read)
+  said_of_nodes (Disk file) status h read (e, says) = ended status 10 (line_of (Disk file)) e says (disk file.now (ended_by_journal call (nodes_end.DiskFault file.now) h) read)
+  said_of_nodes (Full file) status h read (e, says) = ended status 11 (line_of (Full file)) e says (full file.now (ended_by_journal call (nodes_end.Full file.now) h) read)
   said_of_nodes _ status h blames told = absurd h
 
   said_whole : (fault : Fault) (status : ℕ) → WholeEnds call (Err fault) → Blames call.run.files.failed_old call.run.files.failed_new fault → IsTold fault status err → IsSaid call err status
@@ -111,7 +120,7 @@ module _ (call : WholeCall) (err : Errors) where
 
   -- ---- what each status says of a failure
 
-  at_most : (status : ℕ) (line : List ℕ) → IsFailure call status line → status ≤ 9
+  at_most : (status : ℕ) (line : List ℕ) → IsFailure call status line → status ≤ 11
   at_most _ _ (rejected h read) = omega arith
   at_most _ _ (no_words said none read) = omega arith
   at_most _ _ (refused line h read) = omega arith
@@ -121,6 +130,9 @@ module _ (call : WholeCall) (err : Errors) where
   at_most _ _ (cut h read) = omega arith
   at_most _ _ (cut_off h read) = omega arith
   at_most _ _ (child shard own h read) = omega arith
+  at_most _ _ (no_journal name h read) = omega arith
+  at_most _ _ (disk name h read) = omega arith
+  at_most _ _ (full name h read) = omega arith
 
   not_done : (A : Type 0) (status : ℕ) (line : List ℕ) → IsFailure call status line → status ≡ 0 → A
   not_done A _ _ (no_words said none read) e = absurd (omega arith)
@@ -133,22 +145,28 @@ module _ (call : WholeCall) (err : Errors) where
   at_fitting _ _ (no_words said refuses read) none is = absurd (is.taken said refuses.1)
   at_fitting _ _ (refused line h read) none is = absurd (is.right line h)
   at_fitting _ _ (memory h read) none is = inr (inl refl)
-  at_fitting _ _ (unanswered h read) none is = absurd (none (nodes_named call submit_end.Unanswered h))
+  at_fitting _ _ (unanswered h read) none is = absurd (none (nodes_named call nodes_end.Unanswered h))
   at_fitting _ _ (unread name h) none is = inr (inr (inl refl))
   at_fitting _ _ (cut h read) none is = inr (inr (inr (inl refl)))
-  at_fitting _ _ (cut_off h read) none is = absurd (none (nodes_named call submit_end.LinkFault h))
+  at_fitting _ _ (cut_off h read) none is = absurd (none (nodes_named call nodes_end.LinkFault h))
   at_fitting _ _ (child shard own h read) none is = absurd (none (child_named call shard own h))
+  at_fitting _ _ (no_journal name h read) none is = absurd (none (keeper_named call name (serve_end.Journal h.0) h.1))
+  at_fitting _ _ (disk name h read) none is = absurd (none (keeper_named call name serve_end.Disk h))
+  at_fitting _ _ (full name h read) none is = absurd (none (keeper_named call name serve_end.Full h))
 
-  at_fitting_nodes : (status : ℕ) (line : List ℕ) → IsFailure call status line → IsFaultless call.run → (status ≡ 0) ⊎ (4 ≤ status)
+  at_fitting_nodes : (status : ℕ) (line : List ℕ) → IsFailure call status line → IsFaultless call.run → (status ≡ 0) ⊎ ((4 ≤ status) ⊎ ((name : List ℕ) × RefusesJournal call name))
   at_fitting_nodes _ _ (rejected h read) is = absurd (is.acceptable h)
   at_fitting_nodes _ _ (no_words said refuses read) is = absurd (is.taken said refuses.1)
   at_fitting_nodes _ _ (refused line h read) is = absurd (is.right line h)
-  at_fitting_nodes _ _ (memory h read) is = inr (omega arith)
-  at_fitting_nodes _ _ (unanswered h read) is = inr (omega arith)
-  at_fitting_nodes _ _ (unread name h) is = inr (omega arith)
-  at_fitting_nodes _ _ (cut h read) is = inr (omega arith)
-  at_fitting_nodes _ _ (cut_off h read) is = inr (omega arith)
-  at_fitting_nodes _ _ (child shard own h read) is = inr (omega arith)
+  at_fitting_nodes _ _ (no_journal name h read) is = inr (inr (name, h))
+  at_fitting_nodes _ _ (memory h read) is = inr (inl (omega arith))
+  at_fitting_nodes _ _ (unanswered h read) is = inr (inl (omega arith))
+  at_fitting_nodes _ _ (unread name h) is = inr (inl (omega arith))
+  at_fitting_nodes _ _ (cut h read) is = inr (inl (omega arith))
+  at_fitting_nodes _ _ (cut_off h read) is = inr (inl (omega arith))
+  at_fitting_nodes _ _ (child shard own h read) is = inr (inl (omega arith))
+  at_fitting_nodes _ _ (disk name h read) is = inr (inl (omega arith))
+  at_fitting_nodes _ _ (full name h read) is = inr (inl (omega arith))
 
   at_rejected : (status : ℕ) (line : List ℕ) → IsFailure call status line → status ≡ 1 → Rejects call.run
   at_rejected _ _ (rejected h read) e = h
@@ -159,16 +177,18 @@ module _ (call : WholeCall) (err : Errors) where
   at_words _ _ (no_words said none read) says e = (none.0, said, none.1, says (λ f. absurd (omega arith)) (λ f. absurd (omega arith)))
   at_words _ _ _ says e = absurd (omega arith)
 
-  at_refused : (status : ℕ) (line : List ℕ) → IsFailure call status line → SaysUnlessSilent err status line → status ≡ 3 → (said : List ℕ) × IsRefused call.run said × Says err said
-  at_refused _ _ (refused line h read) says e = (line, h, says (λ f. absurd (omega arith)) (λ f. absurd (omega arith)))
+  at_refused : (status : ℕ) (line : List ℕ) → IsFailure call status line → SaysUnlessSilent err status line → status ≡ 3
+      → ((said : List ℕ) × IsRefused call.run said × Says err said) ⊎ ((name : List ℕ) × RefusesJournal call name × Says err (journal_line name))
+  at_refused _ _ (refused line h read) says e = inl (line, h, says (λ f. absurd (omega arith)) (λ f. absurd (omega arith)))
+  at_refused _ _ (no_journal name h read) says e = inr (name, h, says (λ f. absurd (omega arith)) (λ f. absurd (omega arith)))
   at_refused _ _ _ says e = absurd (omega arith)
 
   at_memory : (status : ℕ) (line : List ℕ) → IsFailure call status line → SaysUnlessSilent err status line → status ≡ 4
-      → (RunsOut call.run ⊎ (AreNodesEnded call submit_end.NoMemory ⊎ BlamesAnyChild call)) × Says err (word_line (codes "memory"))
+      → (RunsOut call.run ⊎ (AreNodesEnded call nodes_end.NoMemory ⊎ BlamesAnyChild call)) × Says err (word_line (codes "memory"))
   at_memory _ _ (memory h read) says e = (h, says (λ f. absurd (omega arith)) (λ f. absurd (omega arith)))
   at_memory _ _ _ says e = absurd (omega arith)
 
-  at_unanswered : (status : ℕ) (line : List ℕ) → IsFailure call status line → status ≡ 5 → AreNodesEnded call submit_end.Unanswered
+  at_unanswered : (status : ℕ) (line : List ℕ) → IsFailure call status line → status ≡ 5 → AreNodesEnded call nodes_end.Unanswered
   at_unanswered _ _ (unanswered h read) e = h
   at_unanswered _ _ _ e = absurd (omega arith)
 
@@ -177,11 +197,11 @@ module _ (call : WholeCall) (err : Errors) where
   at_unread _ _ _ says e = absurd (omega arith)
 
   at_cut : (status : ℕ) (line : List ℕ) → IsFailure call status line → SaysUnlessSilent err status line → status ≡ 7
-      → (CutsOutput call.run ⊎ AreNodesEnded call submit_end.SinkFault) × Says err (word_line (codes "sink"))
+      → (CutsOutput call.run ⊎ AreNodesEnded call nodes_end.SinkFault) × Says err (word_line (codes "sink"))
   at_cut _ _ (cut h read) says e = (h, says (λ f. absurd (omega arith)) (λ f. absurd (omega arith)))
   at_cut _ _ _ says e = absurd (omega arith)
 
-  at_cut_off : (status : ℕ) (line : List ℕ) → IsFailure call status line → SaysUnlessSilent err status line → status ≡ 8 → AreNodesEnded call submit_end.LinkFault × Says err (word_line (codes "link"))
+  at_cut_off : (status : ℕ) (line : List ℕ) → IsFailure call status line → SaysUnlessSilent err status line → status ≡ 8 → AreNodesEnded call nodes_end.LinkFault × Says err (word_line (codes "link"))
   at_cut_off _ _ (cut_off h read) says e = (h, says (λ f. absurd (omega arith)) (λ f. absurd (omega arith)))
   at_cut_off _ _ _ says e = absurd (omega arith)
 
@@ -189,6 +209,16 @@ module _ (call : WholeCall) (err : Errors) where
       → (shard : Shard) × (own : Option ℕ) × IsChildBlamed call shard own × Says err (child_line shard.0 own)
   at_child _ _ (child shard own h read) says e = (shard, own, h, says (λ f. absurd (omega arith)) (λ f. absurd (omega arith)))
   at_child _ _ _ says e = absurd (omega arith)
+
+  at_disk : (status : ℕ) (line : List ℕ) → IsFailure call status line → SaysUnlessSilent err status line → status ≡ 10
+      → (name : List ℕ) × IsServedWith call name serve_end.Disk × Says err (disk_line name)
+  at_disk _ _ (disk name h read) says e = (name, h, says (λ f. absurd (omega arith)) (λ f. absurd (omega arith)))
+  at_disk _ _ _ says e = absurd (omega arith)
+
+  at_full : (status : ℕ) (line : List ℕ) → IsFailure call status line → SaysUnlessSilent err status line → status ≡ 11
+      → (name : List ℕ) × IsServedWith call name serve_end.Full × Says err (full_line name)
+  at_full _ _ (full name h read) says e = (name, h, says (λ f. absurd (omega arith)) (λ f. absurd (omega arith)))
+  at_full _ _ _ says e = absurd (omega arith)
 
   at_others : (status : ℕ) (line : List ℕ) → IsFailure call status line → (status ≡ 6 → ⊥) → ReadsAll call.run
   at_others _ _ (rejected h read) other = read
@@ -200,6 +230,9 @@ module _ (call : WholeCall) (err : Errors) where
   at_others _ _ (cut h read) other = read
   at_others _ _ (cut_off h read) other = read
   at_others _ _ (child shard own h read) other = read
+  at_others _ _ (no_journal name h read) other = read
+  at_others _ _ (disk name h read) other = read
+  at_others _ _ (full name h read) other = read
 
   -- words that are none of a command's: only refused words and want of memory
   of_words : (status : ℕ) (line : List ℕ) → IsFailure call status line → (AreCommandWords call.run.words → ⊥) → IsOneOf (2 ∷ 4 ∷ []) status
@@ -207,12 +240,15 @@ module _ (call : WholeCall) (err : Errors) where
   of_words _ _ (no_words said h read) none = inl refl
   of_words _ _ (refused line h read) none = absurd (none (refused_words call.run line h))
   of_words _ _ (memory h read) none = inr (inl refl)
-  of_words _ _ (unanswered h read) none = absurd (none (nodes_words call submit_end.Unanswered h))
+  of_words _ _ (unanswered h read) none = absurd (none (nodes_words call nodes_end.Unanswered h))
   of_words _ _ (unread name h) none = absurd (none (input_words call.run name h.input))
   of_words _ _ (cut (inl h) read) none = absurd (none (cut_words call.run h))
-  of_words _ _ (cut (inr h) read) none = absurd (none (nodes_words call submit_end.SinkFault h))
-  of_words _ _ (cut_off h read) none = absurd (none (nodes_words call submit_end.LinkFault h))
+  of_words _ _ (cut (inr h) read) none = absurd (none (nodes_words call nodes_end.SinkFault h))
+  of_words _ _ (cut_off h read) none = absurd (none (nodes_words call nodes_end.LinkFault h))
   of_words _ _ (child shard own h read) none = let named = child_named call shard own h in absurd (none (named.1.0, named.1.1))
+  of_words _ _ (no_journal name h read) none = absurd (none (keeper_words call name (serve_end.Journal h.0) h.1))
+  of_words _ _ (disk name h read) none = absurd (none (keeper_words call name serve_end.Disk h))
+  of_words _ _ (full name h read) none = absurd (none (keeper_words call name serve_end.Full h))
 
   -- a shard that the workload lacks
   of_missing : (status : ℕ) (line : List ℕ) → IsFailure call status line → IsShardless call → IsOneOf (2 ∷ 4 ∷ 6 ∷ []) status
@@ -220,12 +256,15 @@ module _ (call : WholeCall) (err : Errors) where
   of_missing _ _ (no_words said h read) is = inl refl
   of_missing _ _ (refused line h read) is = absurd (is.right line h)
   of_missing _ _ (memory h read) is = inr (inl refl)
-  of_missing _ _ (unanswered h read) is = absurd (is.unrun submit_end.Unanswered h)
+  of_missing _ _ (unanswered h read) is = absurd (is.unrun nodes_end.Unanswered h)
   of_missing _ _ (unread name h) is = inr (inr (inl refl))
   of_missing _ _ (cut (inl h) read) is = absurd (is.uncut h)
-  of_missing _ _ (cut (inr h) read) is = absurd (is.unrun submit_end.SinkFault h)
-  of_missing _ _ (cut_off h read) is = absurd (is.unrun submit_end.LinkFault h)
+  of_missing _ _ (cut (inr h) read) is = absurd (is.unrun nodes_end.SinkFault h)
+  of_missing _ _ (cut_off h read) is = absurd (is.unrun nodes_end.LinkFault h)
   of_missing _ _ (child shard own h read) is = absurd (is.no_child shard own h)
+  of_missing _ _ (no_journal name h read) is = absurd (is.unrun _ (keeper_ended call name (serve_end.Journal h.0) h.1))
+  of_missing _ _ (disk name h read) is = absurd (is.unrun _ (keeper_ended call name serve_end.Disk h))
+  of_missing _ _ (full name h read) is = absurd (is.unrun _ (keeper_ended call name serve_end.Full h))
 
   -- where nothing was done, the statuses that may come of a workload that is rejected, of a file that is refused and of what could not be written
   of_undone : (allowed : List ℕ) (status : ℕ) (line : List ℕ) → IsFailure call status line → IsUndone call
@@ -235,12 +274,15 @@ module _ (call : WholeCall) (err : Errors) where
   of_undone allowed _ _ (no_words said h read) is one three seven four six = absurd (is.taken said h.1)
   of_undone allowed _ _ (refused line h read) is one three seven four six = three line h
   of_undone allowed _ _ (memory h read) is one three seven four six = four
-  of_undone allowed _ _ (unanswered h read) is one three seven four six = absurd (is.unrun submit_end.Unanswered h)
+  of_undone allowed _ _ (unanswered h read) is one three seven four six = absurd (is.unrun nodes_end.Unanswered h)
   of_undone allowed _ _ (unread name h) is one three seven four six = six
   of_undone allowed _ _ (cut (inl h) read) is one three seven four six = seven h
-  of_undone allowed _ _ (cut (inr h) read) is one three seven four six = absurd (is.unrun submit_end.SinkFault h)
-  of_undone allowed _ _ (cut_off h read) is one three seven four six = absurd (is.unrun submit_end.LinkFault h)
+  of_undone allowed _ _ (cut (inr h) read) is one three seven four six = absurd (is.unrun nodes_end.SinkFault h)
+  of_undone allowed _ _ (cut_off h read) is one three seven four six = absurd (is.unrun nodes_end.LinkFault h)
   of_undone allowed _ _ (child shard own h read) is one three seven four six = absurd (is.no_child shard own h)
+  of_undone allowed _ _ (no_journal name h read) is one three seven four six = absurd (is.unrun _ (keeper_ended call name (serve_end.Journal h.0) h.1))
+  of_undone allowed _ _ (disk name h read) is one three seven four six = absurd (is.unrun _ (keeper_ended call name serve_end.Disk h))
+  of_undone allowed _ _ (full name h read) is one three seven four six = absurd (is.unrun _ (keeper_ended call name serve_end.Full h))
 
   of_planless : (status : ℕ) (line : List ℕ) → IsFailure call status line → IsUnplanned call → IsOneOf (1 ∷ 4 ∷ 6 ∷ 7 ∷ []) status
   of_planless status line h lacks =
@@ -263,7 +305,7 @@ module _ (call : WholeCall) (err : Errors) where
         printed = not_done (ArePrintWords call.run.words → Prints call.run) status h.line h.is;
         checked = not_done (AreCheckWords call.run.words → Checks call.run) status h.line h.is;
         generated = not_done (AreGenWords call.run.words → Generates call.run) status h.line h.is;
-        served = not_done (AreServeWords call.run.words → ServeEnded call.run call.link serve_end.Done) status h.line h.is;
+        served = not_done (AreServeWords call.run.words → ServeEnded call.run call.link call.disk serve_end.Done) status h.line h.is;
         submitted = not_done (AreSubmitWords call.run.words → SubmitEnded call.run call.link submit_end.Done) status h.line h.is;
         stopped = not_done (AreStopWords call.run.words → StopEnded call.run call.link stop_end.Done) status h.line h.is;
         ran = not_done (AreLocalWords call.run.words → LocalEnded call.run call.link call.children local_end.Done) status h.line h.is;
@@ -285,105 +327,6 @@ module _ (call : WholeCall) (err : Errors) where
         cut = at_cut status h.line h.is h.says;
         cut_off = at_cut_off status h.line h.is h.says;
         child = at_child status h.line h.is h.says;
+        disk = at_disk status h.line h.is h.says;
+        full = at_full status h.line h.is h.says;
       }
-
--- ---- what was done
-
--- of the commands, the one that the words ask for was done
-module _ (call : WholeCall) where
-  replay_done : WholeEnds call (Ok tt) → AreReplayWords call.run.words → Replays call.run
-  replay_done (inl (inl done)) are = done
-  replay_done (inl (inr (inl done))) (workload, schedule, given) = unlike (Replays call.run) call.run.words (print done.workload) (replay workload schedule) done.given given refl
-  replay_done (inl (inr (inr (inl done)))) (workload, schedule, given) = unlike (Replays call.run) call.run.words (check done.workload) (replay workload schedule) done.given given refl
-  replay_done (inl (inr (inr (inr done)))) (workload, schedule, given) = unlike (Replays call.run) call.run.words (gen done.seed done.shards done.txns done.part) (replay workload schedule) done.given given refl
-  replay_done (inr h) (workload, schedule, given) = absurd (no_name node_files call.run.words (replay workload schedule) given refl _ (nodes_named call submit_end.Done h).1)
-
-  print_done : WholeEnds call (Ok tt) → ArePrintWords call.run.words → Prints call.run
-  print_done (inl (inl done)) (workload, given) = unlike (Prints call.run) call.run.words (replay done.asked.workload done.asked.schedule) (print workload) done.asked.given given refl
-  print_done (inl (inr (inl done))) are = done
-  print_done (inl (inr (inr (inl done)))) (workload, given) = unlike (Prints call.run) call.run.words (check done.workload) (print workload) done.given given refl
-  print_done (inl (inr (inr (inr done)))) (workload, given) = unlike (Prints call.run) call.run.words (gen done.seed done.shards done.txns done.part) (print workload) done.given given refl
-  print_done (inr h) (workload, given) = absurd (no_name node_files call.run.words (print workload) given refl _ (nodes_named call submit_end.Done h).1)
-
-  check_done : WholeEnds call (Ok tt) → AreCheckWords call.run.words → Checks call.run
-  check_done (inl (inl done)) (workload, given) = unlike (Checks call.run) call.run.words (replay done.asked.workload done.asked.schedule) (check workload) done.asked.given given refl
-  check_done (inl (inr (inl done))) (workload, given) = unlike (Checks call.run) call.run.words (print done.workload) (check workload) done.given given refl
-  check_done (inl (inr (inr (inl done)))) are = done
-  check_done (inl (inr (inr (inr done)))) (workload, given) = unlike (Checks call.run) call.run.words (gen done.seed done.shards done.txns done.part) (check workload) done.given given refl
-  check_done (inr h) (workload, given) = absurd (no_name node_files call.run.words (check workload) given refl _ (nodes_named call submit_end.Done h).1)
-
-  gen_done : WholeEnds call (Ok tt) → AreGenWords call.run.words → Generates call.run
-  gen_done (inl (inl done)) (seed, shards, txns, part, given) = unlike (Generates call.run) call.run.words (replay done.asked.workload done.asked.schedule) (gen seed shards txns part) done.asked.given given refl
-  gen_done (inl (inr (inl done))) (seed, shards, txns, part, given) = unlike (Generates call.run) call.run.words (print done.workload) (gen seed shards txns part) done.given given refl
-  gen_done (inl (inr (inr (inl done)))) (seed, shards, txns, part, given) = unlike (Generates call.run) call.run.words (check done.workload) (gen seed shards txns part) done.given given refl
-  gen_done (inl (inr (inr (inr done)))) are = done
-  gen_done (inr h) (seed, shards, txns, part, given) = absurd (no_name node_files call.run.words (gen seed shards txns part) given refl _ (nodes_named call submit_end.Done h).1)
-
-  -- a command without nodes was done, though the words ask for one with them
-  not_without : (A : Type 0) → Ends call.run (Ok tt) → NamesNodes call.run.words → A
-  not_without A (inl done) (files, names) = absurd (no_name node_files call.run.words (replay done.asked.workload done.asked.schedule) done.asked.given refl files names)
-  not_without A (inr (inl done)) (files, names) = absurd (no_name node_files call.run.words (print done.workload) done.given refl files names)
-  not_without A (inr (inr (inl done))) (files, names) = absurd (no_name node_files call.run.words (check done.workload) done.given refl files names)
-  not_without A (inr (inr (inr done))) (files, names) = absurd (no_name node_files call.run.words (gen done.seed done.shards done.txns done.part) done.given refl files names)
-
-  served : WholeEnds call (Ok tt) → AreServeWords call.run.words → ServeEnded call.run call.link serve_end.Done
-  served (inl h) (workload, cluster, shard, turns, counts, given) = not_without (ServeEnded call.run call.link serve_end.Done) h (_, (serve workload cluster shard turns counts, given, refl))
-  served (inr h) are = serve_done call h are
-
-  submitted : WholeEnds call (Ok tt) → AreSubmitWords call.run.words → SubmitEnded call.run call.link submit_end.Done
-  submitted (inl h) (workload, cluster, requests, coord, turns, given) = not_without (SubmitEnded call.run call.link submit_end.Done) h (_, (submit workload cluster requests coord turns, given, refl))
-  submitted (inr h) are = submit_done call h are
-
-  stopped : WholeEnds call (Ok tt) → AreStopWords call.run.words → StopEnded call.run call.link stop_end.Done
-  stopped (inl h) (workload, cluster, given) = not_without (StopEnded call.run call.link stop_end.Done) h (_, (stop workload cluster, given, refl))
-  stopped (inr h) are = stop_done call h are
-
-  ran : WholeEnds call (Ok tt) → AreLocalWords call.run.words → LocalEnded call.run call.link call.children local_end.Done
-  ran (inl h) (workload, cluster, requests, turns, given) = not_without (LocalEnded call.run call.link call.children local_end.Done) h (_, (local workload cluster requests turns, given, refl))
-  ran (inr h) are = local_done call h are
-
-  done_words : WholeEnds call (Ok tt) → AreCommandWords call.run.words
-  done_words (inl (inl done)) = (replay done.asked.workload done.asked.schedule, done.asked.given)
-  done_words (inl (inr (inl done))) = (print done.workload, done.given)
-  done_words (inl (inr (inr (inl done)))) = (check done.workload, done.given)
-  done_words (inl (inr (inr (inr done)))) = (gen done.seed done.shards done.txns done.part, done.given)
-  done_words (inr h) = nodes_words call submit_end.Done h
-
-  shardless_undone : IsShardless call → WholeEnds call (Ok tt) → ⊥
-  shardless_undone is (inl h) = is.undone h
-  shardless_undone is (inr h) = is.unrun submit_end.Done h
-
-  not_undone : IsUndone call → WholeEnds call (Ok tt) → ⊥
-  not_undone is (inl h) = is.undone h
-  not_undone is (inr h) = is.unrun submit_end.Done h
-
-  pub done_answers : (err : Errors) → AreFitting call → WholeEnds call (Ok tt) → ReadsAll call.run → call.children.faults_new ≡ call.children.faults_old → Answers call err 0
-  done_answers err laws done read childless = record {
-    statuses = omega arith;
-    replayed = λ _ are. replay_done done are;
-    printed = λ _ are. print_done done are;
-    checked = λ _ are. check_done done are;
-    generated = λ _ are. gen_done done are;
-    served = λ _ are. served done are;
-    submitted = λ _ are. submitted done are;
-    stopped = λ _ are. stopped done are;
-    ran = λ _ are. ran done are;
-    childless = λ _. childless;
-    complete = λ _. inl refl;
-    complete_nodes = λ _. inl refl;
-    rejected = λ e. absurd (omega arith);
-    no_plan = λ lacks. absurd (not_undone (laws.planless lacks).is done);
-    no_words = λ e. absurd (omega arith);
-    words = λ none. absurd (none (done_words done));
-    no_shard = λ missing. absurd (shardless_undone (laws.shardless missing) done);
-    refused = λ e. absurd (omega arith);
-    no_workload = λ lacks. absurd (not_undone (laws.workloadless lacks).is done);
-    no_schedule = λ lacks. absurd (not_undone (laws.scheduleless lacks).is done);
-    memory = λ e. absurd (omega arith);
-    unanswered = λ e. absurd (omega arith);
-    unread = λ e. absurd (omega arith);
-    read = λ _. read;
-    cut = λ e. absurd (omega arith);
-    cut_off = λ e. absurd (omega arith);
-    child = λ e. absurd (omega arith);
-  }

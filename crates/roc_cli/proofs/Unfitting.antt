@@ -8,15 +8,15 @@ use Rattle.roc_lang_resolve.specs.Resolve.{resolved}
 use Rattle.roc_plan.specs.Groups.{Plan}
 use Rattle.roc_report.specs.Line.{Line}
 use Rattle.roc_check.specs.Checked.{IsTextOf, IsPlanOf, IsPlanOfText}
-use Rattle.roc_node_submit.specs.declared.ends.SubmitEnd.{SubmitEnd}
 use Rattle.roc_replay.specs.declared.asked.BoundLine.{BoundLine}
 use Rattle.roc_replay.specs.BoundLine.{IsScheduleOf}
-use Rattle.roc_replay.specs.Played.{DeliversOnlySent}
+use Rattle.roc_replay.specs.Played.{AsksOnlySent}
 use Rattle.roc_cli_words.specs.declared.value.Part.{Part}
 use Rattle.roc_cli_words.specs.Commands.{Command, check, print, replay, serve, submit, stop, local, gen}
 use Rattle.roc_cli_words.specs.Answer.{AreWordsOf}
 use Rattle.roc_cli_nodes.specs.Call.{RunCall, WholeCall}
 use Rattle.roc_cli_nodes.specs.Words.{IsPrint, IsGen, node_files, program_of, workload_of, NamesProgram, NamesWorkload, NamesNodeFiles}
+use Rattle.roc_cli_nodes.specs.NodeEnds.{NodesEnd}
 use Rattle.roc_cli_nodes.specs.Nodes.{AreNodesEnded, IsChildBlamed}
 use Rattle.roc_cli_files.specs.Held.{NodeFiles, Holds, HoldsPlan, HoldsText, HoldsRejected}
 use Rattle.roc_cli.specs.Stopped.{CutsOutput, in_report, in_text, in_check, in_rejection, in_generated}
@@ -27,7 +27,8 @@ use Rattle.roc_cli.specs.Inner.Ends.{Ends}
 use Rattle.roc_cli.specs.Inner.Faultless.{IsUndone, IsUnplanned, IsUnwritten, IsUnplayed}
 use Rattle.roc_cli_nodes.proofs.Naming.{unlike, same_name, no_name, as_workload, as_program, replay_schedule}
 use Rattle.roc_cli_nodes.proofs.Named.{nodes_named, child_named}
-use Rattle.roc_cli.proofs.Fitting.{TextLaws, told, not_long, not_faulty, in_scope, same_plan, not_rejected, no_such_value, words_taken}
+use Rattle.roc_cli.specs.Inner.Texts.{TextLaws}
+use Rattle.roc_cli.proofs.Fitting.{told, not_long, not_faulty, in_scope, same_plan, not_rejected, no_such_value, words_taken}
 
 -- ---- no plan of the named workload
 
@@ -48,11 +49,11 @@ module _ (call : WholeCall) (no : HoldsNoPlan call.run) where
   of_nodes : (workload bytes : List ℕ) (plan : Plan) → NamesProgram call.run.words workload → Holds call.run.files.content workload bytes → IsPlanOfText bytes plan → ⊥
   of_nodes workload bytes plan named held planned = no.planless workload plan named (record { bytes = bytes; held = held; is = planned })
 
-  planless_unrun : (end : SubmitEnd) → AreNodesEnded call end → ⊥
-  planless_unrun end (inl (own, e, h)) = of_nodes h.workload h.bytes h.plan (serve h.workload h.cluster h.shard h.turns h.counts, h.given, refl) h.held.of_workload h.held.planned
-  planless_unrun end (inr (inl h)) = of_nodes h.workload h.bytes h.plan (submit h.workload h.cluster h.listed h.coord h.turns, h.given, refl) h.held.of_workload h.held.planned
+  planless_unrun : (end : NodesEnd) → AreNodesEnded call end → ⊥
+  planless_unrun end (inl (own, h, e)) = of_nodes h.workload h.bytes h.plan (serve h.workload h.cluster h.shard h.turns h.counts h.journal, h.given, refl) h.held.of_workload h.held.planned
+  planless_unrun end (inr (inl (own, e, h))) = of_nodes h.workload h.bytes h.plan (submit h.workload h.cluster h.listed h.coord h.turns, h.given, refl) h.held.of_workload h.held.planned
   planless_unrun end (inr (inr (inl (own, e, h)))) = of_nodes h.workload h.bytes h.plan (stop h.workload h.cluster, h.given, refl) h.held.of_workload h.held.planned
-  planless_unrun end (inr (inr (inr h))) = of_nodes h.workload h.bytes h.plan (local h.workload h.cluster h.listed h.turns, h.given, refl) h.held.of_workload h.held.planned
+  planless_unrun end (inr (inr (inr (own, e, h)))) = of_nodes h.workload h.bytes h.plan (local h.workload h.cluster h.listed h.turns, h.given, refl) h.held.of_workload h.held.planned
 
   planless_child : (shard : Shard) (status : Option ℕ) → IsChildBlamed call shard status → ⊥
   planless_child shard status h =
@@ -184,7 +185,7 @@ module _ (laws : TextLaws) (call : WholeCall) (lacks : LacksSchedule call.run) w
       (replay_schedule call.run.words lacks.workload lacks.schedule asked.workload asked.schedule lacks.given asked.given) asked.of_schedule in
       lacks.unplayed lines
       (subst (λ (p : Plan). IsScheduleOf p.program lacks.text lines) e (subst (λ b. IsScheduleOf done.plan.program b lines) (sym f) done.run.of_schedule))
-      (subst (λ (p : Plan). DeliversOnlySent p lines) e (laws.sent done.plan lines done.run.steps done.run.world done.run.played))
+      (subst (λ (p : Plan). AsksOnlySent p lines) e (laws.sent done.plan lines done.run.steps done.run.world done.run.played))
   unplayed_undone (inr (inl done)) = unlike ⊥ call.run.words (print done.workload) (replay lacks.workload lacks.schedule) done.given lacks.given refl
   unplayed_undone (inr (inr (inl done))) = unlike ⊥ call.run.words (check done.workload) (replay lacks.workload lacks.schedule) done.given lacks.given refl
   unplayed_undone (inr (inr (inr done))) = unlike ⊥ call.run.words (gen done.seed done.shards done.txns done.part) (replay lacks.workload lacks.schedule) done.given lacks.given refl

@@ -12,7 +12,7 @@ use Rattle.roc_plan.specs.Groups.{Plan}
 use Rattle.roc_check.specs.Checked.{IsPlanOfText}
 use Rattle.roc_replay.specs.declared.asked.BoundLine.{BoundLine}
 use Rattle.roc_replay.specs.BoundLine.{IsScheduleOf}
-use Rattle.roc_replay.specs.Played.{DeliversOnlySent}
+use Rattle.roc_replay.specs.Played.{AsksOnlySent}
 use Rattle.roc_cli_nodes.specs.Call.{RunCall}
 use Rattle.roc_cli_nodes.specs.Words.{IsReplay, IsPrint, IsCheck, AreGenWords, NamesNodeFiles}
 use Rattle.roc_cli_files.specs.Held.{NodeFiles, HasShard}
@@ -26,7 +26,7 @@ pub record IsListOfRequests (content : List ℕ → Option (List ℕ)) (program 
   pub requests : List Request
   pub are : AreRequestsOf program text requests
 
--- the words ask for a replay; the named files hold a workload that has a plan, and a schedule that fits this and delivers only what was
+-- the words ask for a replay; the named files hold a workload that has a plan, and a schedule that fits this and asks only for what was
 -- sent
 pub record ReplayFits (call : RunCall) : Type 0 where
   pub workload : List ℕ
@@ -40,7 +40,7 @@ pub record ReplayFits (call : RunCall) : Type 0 where
   pub scheduled : call.files.content schedule ≡ Some text
   pub lines : List BoundLine
   pub of_text : IsScheduleOf plan.program text lines
-  pub sends : DeliversOnlySent plan lines
+  pub sends : AsksOnlySent plan lines
 
 -- the words ask for a check, and the named file holds a workload that has a plan
 pub record CheckFits (call : RunCall) : Type 0 where

@@ -17,8 +17,10 @@ use Rattle.roc_cli_words.specs.declared.value.ValueName.{ValueName}
 use Rattle.roc_cli_words.specs.FaultText.{value_text}
 use Rattle.roc_cli_words.specs.Program.{IsTakenByClap}
 use Rattle.roc_cli_words.specs.Answer.{HaveNoValue}
-use Rattle.roc_cli_nodes.specs.Call.{RunCall, TakesNothing}
+use Rattle.roc_node_serve.specs.declared.ends.ServeEnd.TheVariants as serve_end
+use Rattle.roc_cli_nodes.specs.Call.{RunCall, WholeCall, TakesNothing}
 use Rattle.roc_cli_nodes.specs.Words.{IsReplay, NamesProgram, NamesWorkload, NamesNodeFiles}
+use Rattle.roc_cli_nodes.specs.Nodes.{IsServedWith}
 use Rattle.roc_cli_files.specs.Held.{NodeFiles, HoldsMore, HoldsFault, HoldsMisuse, HoldsPlan, HoldsCluster, HoldsNoCluster, HoldsNoRequests, LacksShard}
 use Rattle.roc_cli.specs.Done.{IsReplayOf}
 use Rattle.roc_cli_files.specs.Says.{word_line, long_line, text_line, fault_line}
@@ -53,3 +55,7 @@ pub data IsRefused (call : RunCall) : List ℕ → Type 0 where
   bad_requests : (files : NodeFiles) (plan : Plan) (addrs : List Addr) (name : List ℕ) (number : ℕ) (what : ScheduleWhat) → NamesNodeFiles call.words files
       → HoldsPlan call.files.content files.workload plan → HoldsCluster call.files.content files.cluster plan.program.shards addrs → files.requests ≡ Some name
       → HoldsNoRequests call.files.content name plan.program number what → TakesNothing call → IsRefused call (fault_line name number (schedule_text what))
+
+-- the words name this journal, the files hold what is needed, and the server takes not all that the journal holds
+abbrev pub RefusesJournal : WholeCall → (name : List ℕ) → Type 0
+RefusesJournal call name = (at : ℕ) × IsServedWith call name (serve_end.Journal at)

@@ -7,7 +7,7 @@ use Rattle.roc_plan.specs.Groups.{Plan}
 use Rattle.roc_check.specs.Checked.{IsTextOf, IsPlanOf, IsPlanOfText}
 use Rattle.roc_replay.specs.declared.asked.BoundLine.{BoundLine}
 use Rattle.roc_replay.specs.BoundLine.{IsScheduleOf}
-use Rattle.roc_replay.specs.Played.{DeliversOnlySent}
+use Rattle.roc_replay.specs.Played.{AsksOnlySent}
 use Rattle.roc_cli_nodes.specs.Call.{RunCall}
 use Rattle.roc_cli_nodes.specs.Words.{IsReplay, NamesProgram, NamesWorkload}
 
@@ -29,8 +29,8 @@ pub data LacksWorkload (call : RunCall) : Type 0 where
   no_program : (workload bytes : List ℕ) → NamesProgram call.words workload → call.files.content workload ≡ Some bytes
       → ((program : Workload) → IsTextOf bytes program → ⊥) → LacksWorkload call
 
--- the words ask for a replay; the named files hold a workload that has a plan, and bytes that are no schedule that fits this and delivers only
--- what was sent
+-- the words ask for a replay; the named files hold a workload that has a plan, and bytes that are no schedule that fits this and asks only
+-- for what was sent
 pub record LacksSchedule (call : RunCall) : Type 0 where
   pub workload : List ℕ
   pub schedule : List ℕ
@@ -41,4 +41,4 @@ pub record LacksSchedule (call : RunCall) : Type 0 where
   pub planned : IsPlanOfText bytes plan
   pub text : List ℕ
   pub scheduled : call.files.content schedule ≡ Some text
-  pub unplayed : (lines : List BoundLine) → IsScheduleOf plan.program text lines → DeliversOnlySent plan lines → ⊥
+  pub unplayed : (lines : List BoundLine) → IsScheduleOf plan.program text lines → AsksOnlySent plan lines → ⊥

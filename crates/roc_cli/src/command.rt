@@ -4,21 +4,22 @@ ghost use Rattle.roc_io.specs.Call.{children_call, link_call};
 ghost use Rattle.roc_io.specs.Cause.{HasCause};
 ghost use Rattle.roc_cli_words.specs.Answer.{AreWordsOf};
 ghost use Rattle.roc_cli_words.specs.Commands.{IsWithin, command_of};
-ghost use Rattle.roc_cli_nodes.specs.Call.{run_call};
-ghost use Rattle.roc_cli_nodes.specs.Words.{AreLocalWords, IsReplay, NamesNodes, needs_nodes};
+ghost use Rattle.roc_cli_nodes.specs.Call.{run_call, disk_call};
+ghost use Rattle.roc_cli_nodes.specs.Words.{AreLocalWords, IsReplay, NamesJournal, NamesNodes, needs_nodes};
 ghost use Rattle.roc_cli_files.specs.Held.{HoldsPlan};
-ghost use Rattle.roc_cli.specs.Status.{Answers, IsQuiet};
-ghost use Rattle.roc_cli_files.specs.Fault.{blames_file, blames_sink, blames_link, Blames, ReadsBut, fails_by};
+ghost use Rattle.roc_cli.specs.Status.{Answers, IsQuiet, IsUnkept};
+ghost use Rattle.roc_cli_files.specs.Fault.{blames_file, blames_sink, blames_link, blames_disk, Blames, ReadsBut, fails_by};
 ghost use Rattle.roc_cli_files.specs.Says.{errors};
-ghost use Rattle.roc_cli_nodes.specs.Ends.{precedes_loop, CountsChildren};
+ghost use Rattle.roc_cli_nodes.specs.Ends.{precedes_loop, precedes_journal, CountsChildren};
 ghost use Rattle.roc_cli.specs.Inner.Ends.{Ends, WholeEnds, ReplayEnds, fault_of_words};
 
-use crate::fit::fitting_calls_are_faultless;
+use crate::fit::texts_keep_laws;
 use crate::generated::write_generated;
 use roc_check::laws::programs_of_texts_have_names;
 use roc_cli_files::{Fault, MOST_LISTED_BYTES, bytes_of, check_file, plan_of, print_file};
 use roc_cli_nodes::{launch, needs_nodes};
 use roc_cli_words::{Ask, WordsFault, ask};
+use roc_disk::Disk;
 use roc_io::{Files, Link, Sink, Spawner};
 use roc_plan::Plan;
 use roc_replay::laws::reports_are_read_in_one_way;
@@ -31,7 +32,7 @@ use std::alloc::Global;
 /// all else that went wrong, in one line; whether `err` takes it changes no status.
 ///
 /// The status is 4 where memory runs out, which no clause gives a cause.
-pub fn run<F: Files, S: Sink, E: Sink, L: Link, P: Spawner>(
+pub fn run<F: Files, S: Sink, E: Sink, L: Link, P: Spawner, D: Disk>(
     alloc: Global,
     words: &[String],
     files: &mut F,
@@ -39,6 +40,7 @@ pub fn run<F: Files, S: Sink, E: Sink, L: Link, P: Spawner>(
     err: &mut E,
     link: &mut L,
     children: &mut P,
+    disk: &mut D,
 ) -> u8
     // What each status says of the words, of what the named files hold, of what standard output and standard error took, and of the link.
     ensures answers { Answers
@@ -46,6 +48,7 @@ pub fn run<F: Files, S: Sink, E: Sink, L: Link, P: Spawner>(
           run = run_call F.Files S.Sink (map string_bytes words.now) files.old files.new out.old out.new;
           link = link_call L.Link link.old link.new;
           children = children_call P.Spawner children.old children.new;
+          disk = disk_call D.Disk disk.old disk.new;
         })
         (errors E.Sink err.old err.new)
         result }
@@ -56,48 +59,56 @@ pub fn run<F: Files, S: Sink, E: Sink, L: Link, P: Spawner>(
     ensures file_faults { HasCause (result == 6) (F.faults files.old) (F.faults files.new) }
     ensures sink_faults { HasCause (result == 7) (S.faults out.old) (S.faults out.new) }
     ensures link_faults { HasCause (result == 8) (L.faults link.old) (L.faults link.new) }
+    ensures disk_faults { HasCause (result == 10) (D.faults disk.old) (D.faults disk.new) }
 
     ensures content { (name : List ℕ) → F.content files.new name ≡ F.content files.old name }
     // The link and the children are used by commands with nodes alone, once their files were read.
     ensures quiet { IsQuiet (map string_bytes words.now) result → (link.new ≡ link.old) × (children.new ≡ children.old) }
+    // The disk is used by words that name a journal alone, once the files were read and the shard was judged.
+    ensures undisked { IsUnkept (map string_bytes words.now) result → disk.new ≡ disk.old }
     // At every status: children are started and awaited by `local` alone.
     ensures unspawned { (AreLocalWords (map string_bytes words.now) → ⊥) → children.new ≡ children.old }
 {
-    fitting_calls_are_faultless();
-    match perform(alloc, words, files, out, link, children) {
+    texts_keep_laws();
+    match perform(alloc, words, files, out, link, children, disk) {
         Ok(()) => 0,
         Err(fault) => fault.tell(alloc, err),
     }
 }
 
 // Does what the words ask for.
-fn perform<'a, F: Files, S: Sink, L: Link, P: Spawner>(
+fn perform<'a, F: Files, S: Sink, L: Link, P: Spawner, D: Disk>(
     alloc: Global,
     words: &'a [String],
     files: &mut F,
     out: &mut S,
     link: &mut L,
     children: &mut P,
+    disk: &mut D,
 ) -> Result<(), Fault<'a>>
     ensures ends { WholeEnds (record {
       run = run_call F.Files S.Sink (map string_bytes words.entry.now) files.old files.new out.old out.new;
       link = link_call L.Link link.old link.new;
       children = children_call P.Spawner children.old children.new;
+      disk = disk_call D.Disk disk.old disk.new;
     }) result }
     ensures untouched { IsTrue (fails_by precedes_loop result) → (link.new ≡ link.old) × (children.new ≡ children.old) }
     ensures quiet { (NamesNodes (map string_bytes words.entry.now) → ⊥) → (link.new ≡ link.old) × (children.new ≡ children.old) }
     ensures unspawned { (AreLocalWords (map string_bytes words.entry.now) → ⊥) → children.new ≡ children.old }
+    ensures unopened { IsTrue (fails_by precedes_journal result) → disk.new ≡ disk.old }
+    ensures unkept { ((name : List ℕ) → NamesJournal (map string_bytes words.entry.now) name → ⊥) → disk.new ≡ disk.old }
     ensures childless { CountsChildren result (P.faults children.old) (P.faults children.new) }
     ensures failed { ReadsBut (F.failed_names files.old) (F.failed_names files.new) result }
     ensures file_faults { HasCause (fails_by blames_file result) (F.faults files.old) (F.faults files.new) }
     ensures sink_faults { HasCause (fails_by blames_sink result) (S.faults out.old) (S.faults out.new) }
     ensures link_faults { HasCause (fails_by blames_link result) (L.faults link.old) (L.faults link.new) }
+    ensures disk_faults { HasCause (fails_by blames_disk result) (D.faults disk.old) (D.faults disk.new) }
     ensures content { (name : List ℕ) → F.content files.new name ≡ F.content files.old name }
 {
     match ask(alloc, words) {
         Ok(asked) => {
             if needs_nodes(asked) {
-                launch(alloc, asked, files, out, link, children)
+                launch(alloc, asked, files, out, link, children, disk)
             } else {
                 perform_alone(alloc, asked, files, out)
             }
@@ -113,6 +124,7 @@ fn refusal<'a>(fault: WordsFault) -> Fault<'a>
     ensures no_file { blames_file result ≡ false }
     ensures no_sink { blames_sink result ≡ false }
     ensures no_link { blames_link result ≡ false }
+    ensures no_disk { blames_disk result ≡ false }
 {
     match fault {
         WordsFault::Refused(text) => Fault::Refused(text),
@@ -149,8 +161,7 @@ fn perform_alone<'a, F: Files, S: Sink>(
             txns,
             part,
         } => write_generated(alloc, seed, shards, txns, part, out),
-        Ask::Serve { .. } | Ask::Submit { .. } | Ask::Stop { .. } | Ask::Local { .. } =>
-            unreachable!(),
+        Ask::Serve(_) | Ask::Submit { .. } | Ask::Stop { .. } | Ask::Local { .. } => unreachable!(),
     }
 }
 

@@ -1,6 +1,5 @@
-//! Why a command whose words and files fit is done, and one whose files are none is not.
-ghost use Rattle.roc_cli_nodes.specs.Call.{WholeCall};
-ghost use Rattle.roc_cli.specs.Inner.Faultless.{AreFitting};
+//! What the laws say of texts, plans and schedules: why a command whose words and files fit is done, and one whose files are none is not.
+ghost use Rattle.roc_cli.specs.Inner.Texts.{TextLaws};
 
 use roc_check::laws::{plans_are_unique, refusals_are_unique};
 use roc_cluster::laws::cluster_files_keep_the_rules;
@@ -8,9 +7,9 @@ use roc_lang_parse::laws::{text_has_no_fault, tree_is_unique};
 use roc_replay::laws::{sent_schedules_are_played, sent_schedules_have_no_fault};
 use roc_sched::laws::{lines_are_unique, texts_are_right_or_wrong};
 
-/// Nothing is wrong with a call whose words and files fit, and nothing is done for one whose workload or schedule is none.
-pub(crate) fn fitting_calls_are_faultless()
-    ensures { (call : WholeCall) → AreFitting call }
+/// The laws of texts, plans and schedules.
+pub(crate) fn texts_keep_laws()
+    ensures { TextLaws }
 {
     tree_is_unique();
     text_has_no_fault();

@@ -5,8 +5,8 @@ use Rattle.roc_lang_scope.specs.FaultText.{what_text}
 use Rattle.roc_cluster.specs.FaultText.{fault_text as cluster_text}
 use Rattle.roc_cli_words.specs.FaultText.{value_text}
 use Rattle.roc_cli_files.specs.declared.fault.Fault.{Fault}
-use Rattle.roc_cli_files.specs.declared.fault.Fault.TheVariants.{Refused, Value, NoShard, TooLong, At, Scope, Cluster, Rejected, Memory, Unanswered, File, Sink, Link, Child}
-use Rattle.roc_cli_files.specs.Says.{word_line, long_line, text_line, fault_line, file_line, child_line, Errors, Says}
+use Rattle.roc_cli_files.specs.declared.fault.Fault.TheVariants.{Refused, Value, NoShard, TooLong, At, Scope, Cluster, Journal, Rejected, Memory, Unanswered, File, Sink, Link, Child, Disk, Full}
+use Rattle.roc_cli_files.specs.Says.{word_line, long_line, text_line, fault_line, journal_line, file_line, child_line, disk_line, full_line, Errors, Says}
 
 -- the line on standard error; there is none where the workload is not acceptable, or requests are unanswered
 abbrev pub line_of : Fault → List ℕ
@@ -17,6 +17,7 @@ line_of (TooLong file) = long_line file.now
 line_of (At file line what) = fault_line file.now line what.now
 line_of (Scope file line what) = fault_line file.now line (what_text what)
 line_of (Cluster file fault) = text_line file.now (cluster_text fault)
+line_of (Journal file) = journal_line file.now
 line_of Rejected = []
 line_of Unanswered = []
 line_of Memory = word_line (codes "memory")
@@ -24,6 +25,8 @@ line_of (File file) = file_line file.now
 line_of Sink = word_line (codes "sink")
 line_of Link = word_line (codes "link")
 line_of (Child shard status) = child_line shard.0 status
+line_of (Disk file) = disk_line file.now
+line_of (Full file) = full_line file.now
 
 -- the program ends with this status, and standard error takes this line
 abbrev pub EndsWith : (wanted : ℕ) → (line : List ℕ) → (status : ℕ) → Errors → Type 0
@@ -36,11 +39,14 @@ IsTold Unanswered status err = status ≡ 5
 IsTold NoShard status err = EndsWith 2 (line_of NoShard) status err
 IsTold (Refused text) status err = EndsWith 2 (line_of (Refused text)) status err
 IsTold (Value name) status err = EndsWith 2 (line_of (Value name)) status err
+IsTold (Journal file) status err = EndsWith 3 (line_of (Journal file)) status err
 IsTold Memory status err = EndsWith 4 (line_of Memory) status err
 IsTold (File file) status err = EndsWith 6 (line_of (File file)) status err
 IsTold Sink status err = EndsWith 7 (line_of Sink) status err
 IsTold Link status err = EndsWith 8 (line_of Link) status err
 IsTold (Child shard own) status err = EndsWith 9 (line_of (Child shard own)) status err ⊎ EndsWith 4 (line_of Memory) status err
+IsTold (Disk file) status err = EndsWith 10 (line_of (Disk file)) status err
+IsTold (Full file) status err = EndsWith 11 (line_of (Full file)) status err
 IsTold fault status err = EndsWith 3 (line_of fault) status err ⊎ EndsWith 4 (line_of Memory) status err
 
 -- a file could not be read
@@ -57,6 +63,11 @@ blames_sink _ = false
 abbrev pub blames_link : Fault → Bool
 blames_link Link = true
 blames_link _ = false
+
+-- a call of the journal's disk failed
+abbrev pub blames_disk : Fault → Bool
+blames_disk (Disk file) = true
+blames_disk _ = false
 
 -- ---- answers
 

@@ -28,6 +28,10 @@ file_line file = codes "file " ++ file ++ 10 ∷ []
 abbrev pub long_line : List ℕ → List ℕ
 long_line file = file ++ codes ": limit" ++ 10 ∷ []
 
+-- `FILE: journal`, where a server does not take what a journal holds
+abbrev pub journal_line : List ℕ → List ℕ
+journal_line file = file ++ codes ": journal" ++ 10 ∷ []
+
 -- `FILE: TEXT`, of a cluster file
 abbrev pub text_line : (file text : List ℕ) → List ℕ
 text_line file text = file ++ codes ": " ++ text ++ 10 ∷ []
@@ -40,6 +44,14 @@ fault_line file number what = file ++ codes ":" ++ decimal number ++ codes ": " 
 abbrev pub child_line : (shard : ℕ) → (status : Option ℕ) → List ℕ
 child_line shard None = codes "child " ++ decimal shard ++ 10 ∷ []
 child_line shard (Some status) = codes "child " ++ decimal shard ++ codes " " ++ decimal status ++ 10 ∷ []
+
+-- `disk FILE`
+abbrev pub disk_line : List ℕ → List ℕ
+disk_line file = codes "disk " ++ file ++ 10 ∷ []
+
+-- `full FILE`
+abbrev pub full_line : List ℕ → List ℕ
+full_line file = codes "full " ++ file ++ 10 ∷ []
 
 -- standard error takes this line, or a front of it at a fault of its own, which is counted
 pub record Says (err : Errors) (line : List ℕ) : Type 0 where

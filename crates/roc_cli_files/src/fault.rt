@@ -1,6 +1,7 @@
 //! Why the program ends without having done what it was asked: its status, and its line on standard error.
 ghost use Rattle.std.specs.Prelude.{◌≡◌, ◌<◌, Some, None, IfOk, string_bytes};
-ghost use Rattle.roc_cli_files.specs.Fault.{IsTold, line_of};
+ghost use Rattle.std.specs.List.{flat_map};
+ghost use Rattle.roc_cli_files.specs.Fault.{EndsWith, IsTold, line_of};
 ghost use Rattle.roc_cli_files.specs.Says.{errors};
 
 use roc_base::{NoMemory, Shard};
@@ -38,6 +39,8 @@ pub enum Fault<'a> {
         file: &'a str,
         fault: ClusterFault,
     },
+    /// A journal is none whose messages the server of that shard takes.
+    Journal(&'a str),
     /// A workload is not acceptable. Standard output took the line that says why.
     Rejected,
     /// There is no memory.
@@ -55,6 +58,10 @@ pub enum Fault<'a> {
         shard: Shard,
         status: Option<u8>,
     },
+    /// A call of the journal's disk failed.
+    Disk(&'a str),
+    /// The journal has no room for another message.
+    Full(&'a str),
 }
 
 impl Fault<'_> {
@@ -70,38 +77,18 @@ impl Fault<'_> {
                 err.write(text.as_bytes());
                 2
             }
-            Fault::Value(name) => {
-                write_all(err, &[name.as_str().as_bytes(), b"\n"]);
-                2
-            }
-            Fault::NoShard => {
-                err.write(b"shard\n");
-                2
-            }
-            Fault::TooLong(file) => {
-                write_all(err, &[file.as_bytes(), b": limit\n"]);
-                3
-            }
+            Fault::Value(name) => says(err, &[name.as_str().as_bytes(), b"\n"], 2),
+            Fault::NoShard => says(err, &[b"shard\n"], 2),
+            Fault::TooLong(file) => says(err, &[file.as_bytes(), b": limit\n"], 3),
             Fault::At { file, line, what } => tell_line(alloc, err, file, line, what),
             Fault::Scope { file, line, what } => tell_misuse(alloc, err, file, line, what),
             Fault::Cluster { file, fault } => tell_cluster(alloc, err, file, fault),
+            Fault::Journal(file) => says(err, &[file.as_bytes(), b": journal\n"], 3),
+            Fault::Memory => says(err, &[b"memory\n"], 4),
             Fault::Unanswered => 5,
-            Fault::Memory => {
-                err.write(b"memory\n");
-                4
-            }
-            Fault::File(file) => {
-                write_all(err, &[b"file ", file.as_bytes(), b"\n"]);
-                6
-            }
-            Fault::Sink => {
-                err.write(b"sink\n");
-                7
-            }
-            Fault::Link => {
-                err.write(b"link\n");
-                8
-            }
+            Fault::File(file) => says(err, &[b"file ", file.as_bytes(), b"\n"], 6),
+            Fault::Sink => says(err, &[b"sink\n"], 7),
+            Fault::Link => says(err, &[b"link\n"], 8),
             Fault::Child {
                 shard,
                 status: Some(status),
@@ -110,8 +97,19 @@ impl Fault<'_> {
                 shard,
                 status: None,
             } => tell_child(alloc, err, shard),
+            Fault::Disk(file) => says(err, &[b"disk ", file.as_bytes(), b"\n"], 10),
+            Fault::Full(file) => says(err, &[b"full ", file.as_bytes(), b"\n"], 11),
         }
     }
+}
+
+// Writes a line in pieces, and answers this status.
+fn says<E: Sink>(err: &mut E, pieces: &[&[u8]], status: u8) -> u8
+    ensures is { result ≡ status }
+    ensures told { EndsWith status (flat_map (λ piece. piece.now) pieces.now) result (errors E.Sink err.old err.new) }
+{
+    write_all(err, pieces);
+    status
 }
 
 // The same of a fault at a line, for whose text there may be no memory.

@@ -1,3 +1,4 @@
 pub mod Naming
 pub mod Looping
 pub mod Named
+mod Reading

@@ -24,7 +24,7 @@ abbrev pub kind : Command → ℕ
 kind (check workload) = 0
 kind (print workload) = 1
 kind (replay workload schedule) = 2
-kind (serve workload cluster shard turns counts) = 3
+kind (serve workload cluster shard turns counts journal) = 3
 kind (submit workload cluster requests coord turns) = 4
 kind (stop workload cluster) = 5
 kind (local workload cluster requests turns) = 6
@@ -56,7 +56,7 @@ program_is_workload : (c : Command) (name : List ℕ) → program_of c ≡ Some 
 program_is_workload (check workload) name e = e
 program_is_workload (print workload) name e = absurd (none-some name e)
 program_is_workload (replay workload schedule) name e = e
-program_is_workload (serve workload cluster shard turns counts) name e = e
+program_is_workload (serve workload cluster shard turns counts journal) name e = e
 program_is_workload (submit workload cluster requests coord turns) name e = e
 program_is_workload (stop workload cluster) name e = e
 program_is_workload (local workload cluster requests turns) name e = e
@@ -73,7 +73,7 @@ unfolding workload_in
 files_name_program (check workload) files e = absurd (none-some files e)
 files_name_program (print workload) files e = absurd (none-some files e)
 files_name_program (replay workload schedule) files e = absurd (none-some files e)
-files_name_program (serve workload cluster shard turns counts) files e = ap workload_in e
+files_name_program (serve workload cluster shard turns counts journal) files e = ap workload_in e
 files_name_program (submit workload cluster requests coord turns) files e = ap workload_in e
 files_name_program (stop workload cluster) files e = ap workload_in e
 files_name_program (local workload cluster requests turns) files e = ap workload_in e

@@ -1,5 +1,6 @@
 pub mod Call
 pub mod Words
+pub mod NodeEnds
 pub mod Nodes
 pub mod Ends
 pub mod Inner

@@ -1,5 +1,5 @@
 -- Commands with nodes: what their files held, and how their loops ended: docs/FORMATS.md, "The program", and docs/PROTOCOL.md, "Running nodes"
-use Rattle.std.specs.Prelude.{◌≡◌, ◌⊎◌, ℕ, Bool, List, [], Option, Some, None, slice_get}
+use Rattle.std.specs.Prelude.{◌≡◌, ◌⊎◌, ℕ, Bool, List, [], Option, Some, None, slice_get, unwrap_or}
 use Rattle.roc_base.specs.declared.node.Shard.{Shard}
 use Rattle.roc_base.specs.declared.node.Node.TheVariants.{Server, Coord}
 use Rattle.roc_io.specs.declared.link.Addr.{Addr}
@@ -7,7 +7,6 @@ use Rattle.roc_plan.specs.Groups.{Plan}
 use Rattle.roc_sched.specs.declared.line.Request.{Request}
 use Rattle.roc_io.specs.Observed.{AddsUnless}
 use Rattle.roc_node_local.specs.declared.stops.StopEnd.{StopEnd}
-use Rattle.roc_node_local.specs.declared.stops.StopEnd.TheVariants as stop_end
 use Rattle.roc_node_submit.specs.SubmitEnd.{any_address}
 use Rattle.roc_node_local.specs.Stops.{SendsStops, stops_unbound}
 use Rattle.roc_node_local.specs.declared.local.LocalEnd.{LocalEnd}
@@ -17,13 +16,12 @@ use Rattle.roc_cli_words.specs.Commands.{serve, submit, stop, local}
 use Rattle.roc_cli_words.specs.Answer.{AreWordsOf}
 use Rattle.roc_node.specs.NodeEvent.{node_setting}
 use Rattle.roc_node_serve.specs.declared.ends.ServeEnd.{ServeEnd}
-use Rattle.roc_node_serve.specs.declared.ends.ServeEnd.TheVariants as serve_end
 use Rattle.roc_node_submit.specs.declared.ends.SubmitEnd.{SubmitEnd}
-use Rattle.roc_node_submit.specs.declared.ends.SubmitEnd.TheVariants as submit_end
-use Rattle.roc_node_serve.specs.ServeEnd.{Serves}
+use Rattle.roc_node_serve.specs.Keeping.{ServesWith}
 use Rattle.roc_node_submit.specs.SubmitEnd.{BindsAndSubmits}
 use Rattle.roc_io.specs.Call.{NodeCall, LinkCall, ChildrenCall}
-use Rattle.roc_cli_nodes.specs.Call.{RunCall, WholeCall, TakesNothing}
+use Rattle.roc_cli_nodes.specs.Call.{RunCall, DiskCall, WholeCall, TakesNothing}
+use Rattle.roc_cli_nodes.specs.NodeEnds.{NodesEnd, end_of_serve, end_of_submit, end_of_stops}
 use Rattle.roc_cli_files.specs.Held.{HoldNodes}
 use Rattle.roc_cli_files.specs.NodeNames.{tag_of_bytes}
 
@@ -34,21 +32,24 @@ node_call call link = record { link = link; out = call.out }
 abbrev pub local_call : RunCall → LinkCall → ChildrenCall → LocalCall
 local_call call link children = record { node = node_call call link; children = children }
 
--- a shard of the workload was served, at its address in the cluster, and that ended so
-pub record ServeEnded (call : RunCall) (link : LinkCall) (end : ServeEnd) : Type 0 where
+-- a shard of the workload was served, at its address in the cluster, with the named journal or without one, and that ended so
+pub record ServeEnded (call : RunCall) (link : LinkCall) (disk : DiskCall) (end : ServeEnd) : Type 0 where
   pub workload : List ℕ
   pub cluster : List ℕ
   pub shard : ℕ
   pub turns : ℕ
   pub counts : Bool
-  pub given : AreWordsOf call.words (serve workload cluster shard turns counts)
+  pub journal : Option (List ℕ)
+  pub given : AreWordsOf call.words (serve workload cluster shard turns counts journal)
   pub bytes : List ℕ
   pub plan : Plan
   pub addrs : List Addr
   pub held : HoldNodes call.files.content (record { workload = workload; cluster = cluster; requests = None; shard = Some shard }) bytes plan addrs []
   pub own : Addr
   pub address : slice_get addrs shard ≡ Some own
-  pub serves : Serves (node_setting plan (tag_of_bytes bytes) (Server (record { 0 = shard })) addrs) (record { 0 = shard }) own turns counts (node_call call link) end
+  pub serves : ServesWith disk.of disk.old disk.new journal
+      (node_setting plan (tag_of_bytes bytes) (Server (record { 0 = shard })) addrs) (record { 0 = shard }) own turns counts
+      (node_call call link) end
 
 -- the requests were submitted by a coordinator, and that ended so
 pub record SubmitEnded (call : RunCall) (link : LinkCall) (end : SubmitEnd) : Type 0 where
@@ -79,25 +80,6 @@ pub record StopEnded (call : RunCall) (link : LinkCall) (end : StopEnd) : Type 0
   pub arrivals : link.new.arrivals ≡ link.old.arrivals
   pub silent : TakesNothing call
 
--- the end of a server, or of one that sends stops, as that of a coordinator
-abbrev pub as_submit_end : ServeEnd → SubmitEnd
-as_submit_end serve_end.Done = submit_end.Done
-as_submit_end serve_end.LinkFault = submit_end.LinkFault
-as_submit_end serve_end.SinkFault = submit_end.SinkFault
-as_submit_end serve_end.NoMemory = submit_end.NoMemory
-
-abbrev pub stop_as_submit_end : StopEnd → SubmitEnd
-stop_as_submit_end stop_end.Done = submit_end.Done
-stop_as_submit_end stop_end.LinkFault = submit_end.LinkFault
-stop_as_submit_end stop_end.NoMemory = submit_end.NoMemory
-
--- the same, by the end of a coordinator
-abbrev pub IsServed : RunCall → LinkCall → SubmitEnd → Type 0
-IsServed call link end = (own : ServeEnd) × (as_submit_end own ≡ end) × ServeEnded call link own
-
-abbrev pub AreStopped : RunCall → LinkCall → SubmitEnd → Type 0
-AreStopped call link end = (own : StopEnd) × (stop_as_submit_end own ≡ end) × StopEnded call link own
-
 -- servers were started as children, the requests submitted, and the servers stopped and awaited, and that ended so
 pub record LocalEnded (call : RunCall) (link : LinkCall) (children : ChildrenCall) (end : LocalEnd) : Type 0 where
   pub workload : List ℕ
@@ -114,16 +96,36 @@ pub record LocalEnded (call : RunCall) (link : LinkCall) (children : ChildrenCal
       (local_ask plan (tag_of_bytes bytes) addrs requests workload cluster turns)
       (local_call call link children) end
 
+-- each of these, by how nodes end
+abbrev pub IsServed : RunCall → LinkCall → DiskCall → NodesEnd → Type 0
+IsServed call link disk end = (own : ServeEnd) × (h : ServeEnded call link disk own) × (end_of_serve (unwrap_or h.journal []) own ≡ end)
+
+abbrev pub AreSubmitted : RunCall → LinkCall → NodesEnd → Type 0
+AreSubmitted call link end = (own : SubmitEnd) × (end_of_submit own ≡ end) × SubmitEnded call link own
+
+abbrev pub AreStopped : RunCall → LinkCall → NodesEnd → Type 0
+AreStopped call link end = (own : StopEnd) × (end_of_stops own ≡ end) × StopEnded call link own
+
+abbrev pub AreRunHere : RunCall → LinkCall → ChildrenCall → NodesEnd → Type 0
+AreRunHere call link children end = (own : SubmitEnd) × (end_of_submit own ≡ end) × LocalEnded call link children (local_end_of own)
+
 -- how a command with nodes ended, once its files were read
-abbrev pub AreNodesEnded : WholeCall → SubmitEnd → Type 0
+abbrev pub AreNodesEnded : WholeCall → NodesEnd → Type 0
 AreNodesEnded call end =
-    IsServed call.run call.link end ⊎ (SubmitEnded call.run call.link end ⊎ (AreStopped call.run call.link end ⊎ LocalEnded call.run call.link call.children (local_end_of end)))
+    IsServed call.run call.link call.disk end ⊎ (AreSubmitted call.run call.link end ⊎ (AreStopped call.run call.link end ⊎ AreRunHere call.run call.link call.children end))
+
+-- a shard was served with the journal of this name, and that ended so
+abbrev pub IsServedWith : WholeCall → (name : List ℕ) → ServeEnd → Type 0
+IsServedWith call name end = (h : ServeEnded call.run call.link call.disk end) × (h.journal ≡ Some name)
 
 -- the server of a shard was to blame, which was started as a child: it could not be started or awaited, and that was counted, or ended with
 -- another status than 0
-pub record IsChildBlamed (call : WholeCall) (shard : Shard) (status : Option ℕ) : Type 0 where
-  pub ended : LocalEnded call.run call.link call.children (ChildFault shard status)
-  pub cause : BlamesChild (ChildFault shard status) call.children.faults_old call.children.faults_new
+pub record BlamesChildOf (call : RunCall) (link : LinkCall) (children : ChildrenCall) (shard : Shard) (status : Option ℕ) : Type 0 where
+  pub ended : LocalEnded call link children (ChildFault shard status)
+  pub cause : BlamesChild (ChildFault shard status) children.faults_old children.faults_new
+
+abbrev pub IsChildBlamed : WholeCall → Shard → Option ℕ → Type 0
+IsChildBlamed call shard status = BlamesChildOf call.run call.link call.children shard status
 
 abbrev pub BlamesAnyChild : WholeCall → Type 0
 BlamesAnyChild call = (shard : Shard) × (status : Option ℕ) × IsChildBlamed call shard status

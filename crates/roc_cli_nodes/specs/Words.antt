@@ -41,7 +41,8 @@ AreGenWords words = (seed shards txns : ℕ) × (part : Part) × IsGen words see
 
 -- the words are those of a server
 abbrev pub AreServeWords : List (List ℕ) → Type 0
-AreServeWords words = (workload cluster : List ℕ) × (shard turns : ℕ) × (counts : Bool) × AreWordsOf words (serve workload cluster shard turns counts)
+AreServeWords words =
+    (workload cluster : List ℕ) × (shard turns : ℕ) × (counts : Bool) × (journal : Option (List ℕ)) × AreWordsOf words (serve workload cluster shard turns counts journal)
 
 -- the words are those of a coordinator
 abbrev pub AreSubmitWords : List (List ℕ) → Type 0
@@ -63,7 +64,7 @@ AreCommandWords words = (command : Command) × AreWordsOf words command
 
 -- the files of a command with nodes
 abbrev pub node_files : Command → Option NodeFiles
-node_files (serve workload cluster shard turns counts) = Some (record { workload = workload; cluster = cluster; requests = None; shard = Some shard })
+node_files (serve workload cluster shard turns counts journal) = Some (record { workload = workload; cluster = cluster; requests = None; shard = Some shard })
 node_files (submit workload cluster requests coord turns) = Some (record { workload = workload; cluster = cluster; requests = Some requests; shard = None })
 node_files (stop workload cluster) = Some (record { workload = workload; cluster = cluster; requests = None; shard = None })
 node_files (local workload cluster requests turns) = Some (record { workload = workload; cluster = cluster; requests = Some requests; shard = None })
@@ -81,7 +82,7 @@ abbrev pub program_of : Command → Option (List ℕ)
 program_of (check workload) = Some workload
 program_of (print workload) = None
 program_of (replay workload schedule) = Some workload
-program_of (serve workload cluster shard turns counts) = Some workload
+program_of (serve workload cluster shard turns counts journal) = Some workload
 program_of (submit workload cluster requests coord turns) = Some workload
 program_of (stop workload cluster) = Some workload
 program_of (local workload cluster requests turns) = Some workload
@@ -92,11 +93,22 @@ abbrev pub workload_of : Command → Option (List ℕ)
 workload_of (print workload) = Some workload
 workload_of (check workload) = Some workload
 workload_of (replay workload schedule) = Some workload
-workload_of (serve workload cluster shard turns counts) = Some workload
+workload_of (serve workload cluster shard turns counts journal) = Some workload
 workload_of (submit workload cluster requests coord turns) = Some workload
 workload_of (stop workload cluster) = Some workload
 workload_of (local workload cluster requests turns) = Some workload
 workload_of (gen seed shards txns part) = None
+
+-- the journal of a server
+abbrev pub journal_of : Command → Option (List ℕ)
+journal_of (serve workload cluster shard turns counts journal) = journal
+journal_of (submit workload cluster requests coord turns) = None
+journal_of (stop workload cluster) = None
+journal_of (local workload cluster requests turns) = None
+journal_of (check workload) = None
+journal_of (print workload) = None
+journal_of (replay workload schedule) = None
+journal_of (gen seed shards txns part) = None
 
 -- the words are those of a command of which this is what they name
 abbrev pub Name : {A : Type 0} → (Command → Option A) → List (List ℕ) → A → Type 0
@@ -113,6 +125,10 @@ NamesWorkload words workload = Name workload_of words workload
 -- the words name these files of a command with nodes
 abbrev pub NamesNodeFiles : List (List ℕ) → NodeFiles → Type 0
 NamesNodeFiles words files = Name node_files words files
+
+-- the words name a journal
+abbrev pub NamesJournal : List (List ℕ) → (name : List ℕ) → Type 0
+NamesJournal words name = Name journal_of words name
 
 -- the words are those of a command with nodes
 abbrev pub NamesNodes : List (List ℕ) → Type 0

@@ -1,5 +1,5 @@
 -- What the program makes of a command and names of files.
-use Rattle.std.proofs.Common.{◌≡◌, ℕ, eqb, Bool, true, false, ◌&&◌, [], ◌∷◌, Some, None, Ok, codes, refl, bytes_eq}
+use Rattle.std.proofs.Common.{◌≡◌, Bool, true, false, ◌&&◌, [], ◌∷◌, Some, None, Ok, codes, refl, bytes_eq}
 use Rattle.std.proofs.lemmas.Bool.{ne_eqb}
 use Rattle.clap.specs.Words.{Text}
 use Rattle.clap.specs.Lexer.{strip_byte}

@@ -1,9 +1,10 @@
 -- What words that `clap` takes ask for: docs/FORMATS.md, "Words"
-use Rattle.std.specs.Prelude.{ℕ, ◌≤◌, Bool, if◌then◌else◌, List, [], Option, Some, None, Result, Ok, Err, codes, bytes_eq, option_and_then, unwrap_or}
+use Rattle.std.specs.Prelude.{ℕ, ◌≤◌, Bool, if◌then◌else◌, List, [], Option, Some, None, Result, Ok, Err, codes, bytes_eq, option_and_then, option_map, unwrap_or}
 use Rattle.clap.specs.Words.{Row, Text, first_of, subcommand_of}
 use Rattle.roc_cli_words.specs.declared.value.ValueName.{ValueName}
 use Rattle.roc_cli_words.specs.declared.value.Part.{Part}
 use Rattle.roc_cli_words.specs.declared.command.Ask.{Ask}
+use Rattle.roc_cli_words.specs.declared.command.Serving.{Serving}
 use Rattle.roc_cli_words.specs.declared.command.Ask.TheVariants as ask
 use Rattle.roc_cli_words.specs.Program.{program_app}
 use Rattle.roc_cli_words.specs.Values.{shard_in, turns_in, coord_in, seed_in, shards_in, txns_in, part_in}
@@ -13,18 +14,21 @@ pub data Command : Type 0 where
   check : (workload : Text) → Command
   print : (workload : Text) → Command
   replay : (workload schedule : Text) → Command
-  serve : (workload cluster : Text) → (shard turns : ℕ) → (counts : Bool) → Command
+  serve : (workload cluster : Text) → (shard turns : ℕ) → (counts : Bool) → (journal : Option Text) → Command
   submit : (workload cluster requests : Text) → (coord turns : ℕ) → Command
   stop : (workload cluster : Text) → Command
   local : (workload cluster requests : Text) → (turns : ℕ) → Command
   gen : (seed shards txns : ℕ) → (part : Part) → Command
 
 -- the same, as the code has it
+abbrev pub serve_command_of : Serving → Command
+serve_command_of asked = serve asked.workload.now asked.cluster.now asked.shard.0 asked.turns asked.counts (option_map (λ name. name.now) asked.journal)
+
 abbrev pub command_of : Ask → Command
 command_of (ask.Check workload) = check workload.now
 command_of (ask.Print workload) = print workload.now
 command_of (ask.Replay workload schedule) = replay workload.now schedule.now
-command_of (ask.Serve workload cluster shard turns counts) = serve workload.now cluster.now shard.0 turns counts
+command_of (ask.Serve asked) = serve_command_of asked
 command_of (ask.Submit workload cluster requests coord turns) = submit workload.now cluster.now requests.now coord turns
 command_of (ask.Stop workload cluster) = stop workload.now cluster.now
 command_of (ask.Local workload cluster requests turns) = local workload.now cluster.now requests.now turns
@@ -35,7 +39,7 @@ abbrev pub IsWithin : Command → Type 0
 IsWithin (check workload) = Unit {0}
 IsWithin (print workload) = Unit {0}
 IsWithin (replay workload schedule) = Unit {0}
-IsWithin (serve workload cluster shard turns counts) = shard ≤ 63
+IsWithin (serve workload cluster shard turns counts journal) = shard ≤ 63
 IsWithin (submit workload cluster requests coord turns) = coord ≤ 15
 IsWithin (stop workload cluster) = Unit {0}
 IsWithin (local workload cluster requests turns) = Unit {0}
@@ -52,7 +56,7 @@ text_in name rows = unwrap_or (first_of name rows) []
 
 abbrev pub serve_in : List Row → Result Command ValueName
 serve_in rows = shard_in (text_in (codes "shard") rows) >>= λ shard. turns_in (text_in (codes "turns") rows) >>= λ turns.
-    Ok (serve (text_in (codes "workload") rows) (text_in (codes "cluster") rows) shard turns (bytes_eq (text_in (codes "counts") rows) (codes "true")))
+    Ok (serve (text_in (codes "workload") rows) (text_in (codes "cluster") rows) shard turns (bytes_eq (text_in (codes "counts") rows) (codes "true")) (first_of (codes "journal") rows))
 
 abbrev pub submit_in : List Row → Result Command ValueName
 submit_in rows = coord_in (text_in (codes "coord") rows) >>= λ coord. turns_in (text_in (codes "turns") rows) >>= λ turns.

@@ -16,6 +16,10 @@ named_rule name = record (standing_rule name) { long = Some name }
 abbrev pub flag_rule : Text → Rule
 flag_rule name = record (new_rule name) { action = Some SetTrue; long = Some name }
 
+-- a value behind its name, as `--journal FILE`, that may stand
+abbrev pub choice_rule : Text → Rule
+choice_rule name = record (new_rule name) { action = Some Set; long = Some name }
+
 -- `check W` and `print W`
 abbrev pub workload_app : Text → App
 workload_app name = with_rule (new_app name) (standing_rule (codes "workload"))
@@ -28,9 +32,11 @@ replay_app = with_rule (workload_app (codes "replay")) (standing_rule (codes "sc
 abbrev pub cluster_app : Text → App
 cluster_app name = with_rule (workload_app name) (standing_rule (codes "cluster"))
 
--- `serve W CLUSTER --shard N --turns T [--counts]`
+-- `serve W CLUSTER --shard N --turns T [--counts] [--journal FILE]`
 abbrev pub serve_app : App
-serve_app = with_rule (with_rule (with_rule (cluster_app (codes "serve")) (named_rule (codes "shard"))) (named_rule (codes "turns"))) (flag_rule (codes "counts"))
+serve_app =
+    with_rule (with_rule (with_rule (with_rule (cluster_app (codes "serve")) (named_rule (codes "shard"))) (named_rule (codes "turns"))) (flag_rule (codes "counts")))
+    (choice_rule (codes "journal"))
 
 -- `submit W CLUSTER REQUESTS --coord C --turns T`
 abbrev pub submit_app : App

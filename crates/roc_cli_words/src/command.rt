@@ -1,7 +1,7 @@
 //! What words ask for.
 ghost use Rattle.std.specs.Prelude.{◌≡◌, IfOk, IfSome, option_and_then, option_map};
 ghost use Rattle.std.specs.Result.{result_map_both};
-ghost use Rattle.clap.specs.Words.{found_of, rows_of, subcommand_rows_of};
+ghost use Rattle.clap.specs.Words.{first_of, found_of, rows_of, subcommand_rows_of};
 ghost use Rattle.roc_cli_words.specs.Commands.{IsWithin, command_in, command_of, gen_in, local_in, serve_in, submit_in, text_in};
 
 use crate::value::{
@@ -9,6 +9,18 @@ use crate::value::{
 };
 use clap::ArgMatches;
 use roc_base::Shard;
+
+/// How a shard is to be served: for so many turns, and in the end it is written, if so asked, how many datagrams and messages were refused
+/// and why. With a journal the server begins with what that gives, and keeps there what it takes.
+#[derive(Clone, Copy)]
+pub struct Serving<'a> {
+    pub workload: &'a str,
+    pub cluster: &'a str,
+    pub shard: Shard,
+    pub turns: u32,
+    pub counts: bool,
+    pub journal: Option<&'a str>,
+}
 
 /// What words ask for: a command, with the names of its files and its values, each in its range.
 #[derive(Clone, Copy)]
@@ -26,14 +38,8 @@ pub enum Ask<'a> {
         workload: &'a str,
         schedule: &'a str,
     },
-    /// To serve a shard for so many turns, and to write in the end, if so asked, how many datagrams and messages were refused and why.
-    Serve {
-        workload: &'a str,
-        cluster: &'a str,
-        shard: Shard,
-        turns: u32,
-        counts: bool,
-    },
+    /// To serve a shard.
+    Serve(Serving<'a>),
     /// To submit each request as this coordinator, for so many turns.
     Submit {
         workload: &'a str,
@@ -73,19 +79,27 @@ fn text_in<'a>(given: &ArgMatches<'a>, name: &str) -> &'a str
     }
 }
 
+// What was given for a name, where it stands.
+fn choice_in<'a>(given: &ArgMatches<'a>, name: &str) -> Option<&'a str>
+    ensures { option_map (λ text. text.now) result ≡ first_of name.now (rows_of (found_of given.now)) }
+{
+    given.get_str(name)
+}
+
 fn serve_in<'a>(given: &ArgMatches<'a>) -> Result<Ask<'a>, ValueName>
     ensures command { result_map_both command_of (λ name. name) result ≡ serve_in (rows_of (found_of given.now)) }
     ensures within { IfOk result (λ ask. IsWithin (command_of ask)) }
 {
     let shard = shard_in(text_in(given, "shard"))?;
     let turns = turns_in(text_in(given, "turns"))?;
-    Ok(Ask::Serve {
+    Ok(Ask::Serve(Serving {
         workload: text_in(given, "workload"),
         cluster: text_in(given, "cluster"),
         shard,
         turns,
         counts: text_in(given, "counts") == "true",
-    })
+        journal: choice_in(given, "journal"),
+    }))
 }
 
 fn submit_in<'a>(given: &ArgMatches<'a>) -> Result<Ask<'a>, ValueName>

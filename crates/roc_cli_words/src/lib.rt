@@ -17,5 +17,5 @@ mod program;
 mod value;
 
 pub use answer::{WordsFault, ask};
-pub use command::Ask;
+pub use command::{Ask, Serving};
 pub use value::{Part, ValueName};

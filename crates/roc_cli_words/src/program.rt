@@ -2,7 +2,8 @@
 ghost use Rattle.std.specs.Prelude.{◌≡◌, IfOk, false, codes};
 ghost use Rattle.clap.specs.Words.{App, Rule, app_of, rule_of, with_rule, with_subcommand};
 ghost use Rattle.roc_cli_words.specs.Inner.Building.{IsSoFar};
-ghost use Rattle.roc_cli_words.specs.Program.{standing_rule, named_rule, flag_rule, workload_app, replay_app, cluster_app, serve_app, submit_app, local_app, gen_app, bare_app, program_app};
+ghost use Rattle.roc_cli_words.specs.Program.{standing_rule, named_rule, flag_rule, choice_rule};
+ghost use Rattle.roc_cli_words.specs.Program.{workload_app, replay_app, cluster_app, serve_app, submit_app, local_app, gen_app, bare_app, program_app};
 
 use clap::{Arg, ArgAction, Command};
 use std::alloc::{AllocError, Global};
@@ -32,6 +33,14 @@ fn flag<'a>(alloc: Global, name: &'a str) -> Arg<'a>
     ensures local { result.global ≡ false }
 {
     Arg::new(alloc, name).action(ArgAction::SetTrue).long(name)
+}
+
+// A value behind its name, that may stand.
+fn choice<'a>(alloc: Global, name: &'a str) -> Arg<'a>
+    ensures rule { rule_of result ≡ choice_rule name.entry.now }
+    ensures local { result.global ≡ false }
+{
+    Arg::new(alloc, name).action(ArgAction::Set).long(name)
 }
 
 // A command with one more argument, where the command was made.
@@ -74,7 +83,8 @@ fn serve_command<'a>(alloc: Global) -> Result<Command<'a>, AllocError>
     let command = cluster_command(alloc, "serve");
     let command = with(command, named(alloc, "shard"));
     let command = with(command, named(alloc, "turns"));
-    with(command, flag(alloc, "counts"))
+    let command = with(command, flag(alloc, "counts"));
+    with(command, choice(alloc, "journal"))
 }
 
 fn submit_command<'a>(alloc: Global) -> Result<Command<'a>, AllocError>
@@ -163,7 +173,7 @@ pub(crate) fn program<'a>(alloc: Global) -> Result<Command<'a>, AllocError>
     let program = joined(program, replay);
     let serve = used_as(
         serve_command(alloc),
-        "rococo serve WORKLOAD CLUSTER --shard N --turns T [--counts]",
+        "rococo serve WORKLOAD CLUSTER --shard N --turns T [--counts] [--journal FILE]",
     );
     let program = joined(program, serve);
     let submit = used_as(

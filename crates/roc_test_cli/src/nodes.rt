@@ -1,6 +1,8 @@
 //! Runs of commands with nodes over a link and children in memory, of which one call fails.
 use crate::program::{COUNTER, given, stored};
 use roc_cli::run;
+use roc_disk::Disk;
+use roc_disk_memory::CalmDisk;
 use roc_io::{Addr, Datagram};
 use roc_io_memory::{MemFiles, MemLink, MemSink, MemSpawner};
 use std::alloc::{AllocError, Global};
@@ -25,7 +27,8 @@ const SECOND_SHARD: Addr = Addr {
     port: 7001,
 };
 
-const CALLER: Addr = Addr {
+/// Where the coordinator is.
+pub(crate) const CALLER: Addr = Addr {
     host: [10, 0, 0, 8],
     port: 9000,
 };
@@ -57,22 +60,24 @@ const FILES: [(&str, &[u8]); 6] = [
     ("pay.requests", b"pay 0 1 10\n"),
 ];
 
-// A datagram with the address that it comes from or goes to.
-type Packet = (Addr, &'static [u8]);
+/// A datagram with the address that it comes from or goes to.
+pub(crate) type Packet = (Addr, &'static [u8]);
 
-// Coordinator 0 starts 0.0 of the counter with the argument 5, under the tag of the counter's text: magic, version, kind, tag, role and
-// number of the sender, and the body.
-const START: &[u8] =
+/// Coordinator 0 starts 0.0 of the counter with the argument 5, under the tag of the counter's text: magic, version, kind, tag, role and
+/// number of the sender, and the body.
+pub(crate) const START: &[u8] =
     b"RCO1\x02\x010\x1d\xeep\x94\xf1U\x07\x01\0\0\0\0\0\0\0\0\0\0\0\0\0\x01\0\0\0\0\0\0\0\x05\0\0";
 
 // The same under another tag.
 const STRANGE_START: &[u8] =
     b"RCO1\x02\x01othertag\x01\0\0\0\0\0\0\0\0\0\0\0\0\0\x01\0\0\0\0\0\0\0\x05\0\0";
 
-const STARTOK: &[u8] =
+/// What the server answers to it.
+pub(crate) const STARTOK: &[u8] =
     b"RCO1\x02\x020\x1d\xeep\x94\xf1U\x07\0\0\0\0\0\0\0\0\0\0\0\0\0\0\0\0\0\0\0\0";
 
-const STOP: &[u8] = b"RCO1\x02\x070\x1d\xeep\x94\xf1U\x07\x01\0\0";
+/// A stop.
+pub(crate) const STOP: &[u8] = b"RCO1\x02\x070\x1d\xeep\x94\xf1U\x07\x01\0\0";
 
 const STOP_OF_TRANSFERS: &[u8] = b"RCO1\x02\x07[\xbf\0\xa1\x84?\xd2]\x01\0\0";
 
@@ -105,13 +110,13 @@ struct Case {
     awaited: &'static [u64],
 }
 
-// All of the outside but the files.
+/// All of the outside but the files and the disk.
 #[derive(Drop)]
-struct Outside {
-    out: MemSink,
-    err: MemSink,
-    link: MemLink,
-    children: MemSpawner,
+pub(crate) struct Outside {
+    pub out: MemSink,
+    pub err: MemSink,
+    pub link: MemLink,
+    pub children: MemSpawner,
 }
 
 fn files(alloc: Global) -> Result<MemFiles, AllocError> {
@@ -122,9 +127,10 @@ fn files(alloc: Global) -> Result<MemFiles, AllocError> {
     Ok(MemFiles::new(alloc, files, Vec::new(alloc)))
 }
 
-fn arrivals(alloc: Global) -> Result<Vec<Datagram>, AllocError> {
+/// Datagrams that are to arrive.
+pub(crate) fn arrivals(alloc: Global, packets: &[Packet]) -> Result<Vec<Datagram>, AllocError> {
     let mut arrivals = Vec::new(alloc);
-    for (from, bytes) in &ROUND {
+    for (from, bytes) in packets {
         arrivals.push(Datagram::copied(alloc, *from, bytes)?)?;
     }
     Ok(arrivals)
@@ -143,13 +149,18 @@ fn outside_of(alloc: Global, failing: Failing) -> Result<Outside, AllocError> {
     Ok(Outside {
         out: MemSink::new(alloc, Vec::new(alloc)),
         err: MemSink::new(alloc, lines),
-        link: MemLink::new(alloc, arrivals(alloc)?, calls, sends),
+        link: MemLink::new(alloc, arrivals(alloc, &ROUND)?, calls, sends),
         children: MemSpawner::new(alloc, vec![in alloc; Some(0), Some(0)]?, children),
     })
 }
 
-// The status with which the words end.
-fn status_of(alloc: Global, words: &[&str], outside: &mut Outside) -> Result<u8, AllocError> {
+/// The status with which the words end, on this disk.
+pub(crate) fn status_on<D: Disk>(
+    alloc: Global,
+    words: &[&str],
+    outside: &mut Outside,
+    disk: &mut D,
+) -> Result<u8, AllocError> {
     let words = given(alloc, words)?;
     let mut files = files(alloc)?;
     Ok(run(
@@ -160,10 +171,12 @@ fn status_of(alloc: Global, words: &[&str], outside: &mut Outside) -> Result<u8,
         &mut outside.err,
         &mut outside.link,
         &mut outside.children,
+        disk,
     ))
 }
 
-fn are_sent(rt: &impl Abort, sent: &[Datagram], wanted: &[Packet]) {
+/// These datagrams were sent.
+pub(crate) fn are_sent(rt: &impl Abort, sent: &[Datagram], wanted: &[Packet]) {
     assert_eq!(rt; sent.len(), wanted.len());
     for (datagram, (to, bytes)) in sent.iter().zip(wanted) {
         assert_eq!(rt; datagram.address(), *to);
@@ -190,7 +203,11 @@ fn have_seen(rt: &impl Abort, outside: &Outside, case: &Case) -> Result<(), Fail
 fn check(rt: &impl Abort, alloc: Global, cases: &[Case]) -> Result<(), Fail> {
     for case in cases {
         let mut outside = outside_of(alloc, case.failing)?;
-        assert_eq!(rt; status_of(alloc, case.words, &mut outside)?, case.status);
+        let mut disk = CalmDisk::new(alloc);
+        assert_eq!(rt;
+            status_on(alloc, case.words, &mut outside, &mut disk)?,
+            case.status
+        );
         have_seen(rt, &outside, case)?;
     }
     Ok(())

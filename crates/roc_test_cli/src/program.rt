@@ -1,5 +1,6 @@
 //! Runs of the program over files and streams in memory.
 use roc_cli::run;
+use roc_disk_memory::CalmDisk;
 use roc_io_memory::{CalmLink, CalmSpawner, MemFiles, MemSink, StoredFile};
 use std::alloc::{AllocError, Global};
 use std::test::Fail;
@@ -84,6 +85,7 @@ fn outcome(
     let mut err = MemSink::new(alloc, err.to_vec(alloc)?);
     let mut link = CalmLink::new(alloc, Vec::new(alloc));
     let mut children = CalmSpawner::new(alloc, Vec::new(alloc));
+    let mut disk = CalmDisk::new(alloc);
     let status = run(
         alloc,
         &given,
@@ -92,6 +94,7 @@ fn outcome(
         &mut err,
         &mut link,
         &mut children,
+        &mut disk,
     );
     Ok(Ran { status, out, err })
 }

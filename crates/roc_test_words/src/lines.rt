@@ -1,6 +1,6 @@
 //! Lines of words, and what they ask for.
 use roc_base::Shard;
-use roc_cli_words::{Ask, Part, ValueName, WordsFault, ask};
+use roc_cli_words::{Ask, Part, Serving, ValueName, WordsFault, ask};
 use std::alloc::{AllocError, Global};
 use std::process::Abort;
 use std::test::Fail;
@@ -11,6 +11,16 @@ fn given(alloc: Global, words: &[&str]) -> Result<Vec<String>, AllocError> {
         given.push(String::from_str(alloc, word)?)?;
     }
     Ok(given)
+}
+
+// Whether a shard is to be served in one way.
+fn is_served_alike(one: Serving, other: Serving) -> bool {
+    one.workload == other.workload
+        && one.cluster == other.cluster
+        && one.shard == other.shard
+        && one.turns == other.turns
+        && one.counts == other.counts
+        && one.journal == other.journal
 }
 
 // Whether two commands are one, with the same names and values.
@@ -24,16 +34,7 @@ fn is_same(one: Ask, other: Ask) -> bool {
         } => {
             matches!(other, Ask::Replay { workload, schedule } if workload == w && schedule == s)
         }
-        Ask::Serve {
-            workload: w,
-            cluster: c,
-            shard: n,
-            turns: t,
-            counts: k,
-        } => {
-            matches!(other, Ask::Serve { workload, cluster, shard, turns, counts }
-                if workload == w && cluster == c && shard == n && turns == t && counts == k)
-        }
+        Ask::Serve(own) => matches!(other, Ask::Serve(asked) if is_served_alike(own, asked)),
         Ask::Submit {
             workload: w,
             cluster: c,
@@ -82,7 +83,7 @@ fn are_asked(rt: &impl Abort, alloc: Global, cases: &[(&[&str], Ask)]) -> Result
 
 #[test]
 fn words_of_commands_ask_for_them(rt: HostRuntime) -> Result<(), Fail> {
-    let cases: [(&[&str], Ask); 11] = [
+    let cases: [(&[&str], Ask); 9] = [
         (&["check", "w"], Ask::Check { workload: "w" }),
         (&["print", "w"], Ask::Print { workload: "w" }),
         (
@@ -90,26 +91,6 @@ fn words_of_commands_ask_for_them(rt: HostRuntime) -> Result<(), Fail> {
             Ask::Replay {
                 workload: "w",
                 schedule: "s",
-            },
-        ),
-        (
-            &["serve", "w", "c", "--shard", "63", "--turns", "4294967295"],
-            Ask::Serve {
-                workload: "w",
-                cluster: "c",
-                shard: Shard(63),
-                turns: 4_294_967_295,
-                counts: false,
-            },
-        ),
-        (
-            &["serve", "--shard", "0", "w", "--counts", "--turns=10", "c"],
-            Ask::Serve {
-                workload: "w",
-                cluster: "c",
-                shard: Shard(0),
-                turns: 10,
-                counts: true,
             },
         ),
         (
@@ -170,6 +151,46 @@ fn words_of_commands_ask_for_them(rt: HostRuntime) -> Result<(), Fail> {
     Ok(())
 }
 
+#[test]
+fn words_of_a_server_ask_for_it(rt: HostRuntime) -> Result<(), Fail> {
+    let cases: [(&[&str], Ask); 2] = [
+        (
+            &["serve", "w", "c", "--shard", "63", "--turns", "4294967295"],
+            Ask::Serve(Serving {
+                workload: "w",
+                cluster: "c",
+                shard: Shard(63),
+                turns: 4_294_967_295,
+                counts: false,
+                journal: None,
+            }),
+        ),
+        (
+            &[
+                "serve",
+                "--shard",
+                "0",
+                "w",
+                "--counts",
+                "--turns=10",
+                "--journal",
+                "j",
+                "c",
+            ],
+            Ask::Serve(Serving {
+                workload: "w",
+                cluster: "c",
+                shard: Shard(0),
+                turns: 10,
+                counts: true,
+                journal: Some("j"),
+            }),
+        ),
+    ];
+    are_asked(&rt, rt.alloc(), &cases)?;
+    Ok(())
+}
+
 fn are_refused(rt: &impl Abort, alloc: Global, cases: &[&[&str]]) -> Result<(), AllocError> {
     for words in cases {
         let given = given(alloc, words)?;
@@ -183,7 +204,7 @@ fn are_refused(rt: &impl Abort, alloc: Global, cases: &[&[&str]]) -> Result<(), 
 
 #[test]
 fn other_words_are_refused(rt: HostRuntime) -> Result<(), Fail> {
-    let cases: [&[&str]; 13] = [
+    let cases: [&[&str]; 14] = [
         &[],
         &["run", "w"],
         &["--help"],
@@ -196,6 +217,7 @@ fn other_words_are_refused(rt: HostRuntime) -> Result<(), Fail> {
         &["check", "w", "s"],
         &["serve", "w", "c", "--shard", "1"],
         &["serve", "w", "c", "--shard", "1", "--turns"],
+        &["serve", "w", "c", "--shard=1", "--turns=1", "--journal"],
         &["print", "w", "--turns", "1"],
     ];
     are_refused(&rt, rt.alloc(), &cases)?;

@@ -1,11 +1,11 @@
-//! The program: `run` of `roc_cli` over the machine's files, streams, network and processes of `roc_io_real`. Its words
+//! The program: `run` of `roc_cli` over the machine's files, streams, network, processes and disk of `roc_io_real`. Its words
 //! are those of `docs/FORMATS.md`, "The program". Nothing stands here that can stand elsewhere.
 #![tactic(auto)]
 
 use roc_cli::run;
 use roc_io::{Sink, Written};
 use roc_io_real::{
-    Gathered, Given, RealFiles, RealLink, RealSpawner, Stream, finish_both, words_given,
+    Gathered, Given, RealDisk, RealFiles, RealLink, RealSpawner, Stream, finish_both, words_given,
 };
 use std::process::ExitCode;
 
@@ -39,6 +39,7 @@ fn run_words(rt: &HostRuntime, words: &[String]) -> u8 {
         &mut err,
         &mut RealLink::new(rt.alloc(), rt),
         &mut RealSpawner::new(rt.alloc(), rt),
+        &mut RealDisk::new(rt),
     );
     // A write that fails only now ends the program as any other does.
     match finish_both(&mut out, &mut err, b"sink\n") {

@@ -7,7 +7,7 @@ use Rattle.roc_sched.specs.FaultText.{what_text as schedule_text}
 use Rattle.roc_replay.specs.declared.ended.Summary.{Summary}
 use Rattle.roc_replay.specs.Ended.{IsReplayed, IsTextFault, IsCut, IsUnfinished}
 use Rattle.roc_cli_files.specs.declared.fault.Fault.{Fault}
-use Rattle.roc_cli_files.specs.declared.fault.Fault.TheVariants.{Refused, Value, NoShard, At, Rejected, Memory, Unanswered, File, Sink, Link, Child}
+use Rattle.roc_cli_files.specs.declared.fault.Fault.TheVariants.{Refused, Value, NoShard, At, Journal, Rejected, Memory, Unanswered, File, Sink, Link, Child, Disk, Full}
 use Rattle.roc_cli_words.specs.declared.value.Part.{Part}
 use Rattle.roc_cli_words.specs.declared.answer.WordsFault.{WordsFault}
 use Rattle.roc_cli_words.specs.declared.answer.WordsFault.TheVariants as words_fault
@@ -55,6 +55,9 @@ Fails call (File file) = IsUnread call file.now
 Fails call Sink = CutsOutput call
 Fails call Link = ⊥
 Fails call (Child shard status) = ⊥
+Fails call (Journal file) = ⊥
+Fails call (Disk file) = ⊥
+Fails call (Full file) = ⊥
 Fails call fault = IsRefused call (line_of fault)
 
 abbrev pub Ends : RunCall → Result Unit Fault → Type 0

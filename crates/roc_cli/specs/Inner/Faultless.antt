@@ -1,9 +1,9 @@
 -- Calls that nothing is wrong with, calls for a shard that the workload lacks, and calls that cannot be done
 use Rattle.std.specs.Prelude.{ℕ, List, Option, Ok}
 use Rattle.roc_base.specs.declared.node.Shard.{Shard}
-use Rattle.roc_node_submit.specs.declared.ends.SubmitEnd.{SubmitEnd}
 use Rattle.roc_cli_nodes.specs.Call.{RunCall, WholeCall}
 use Rattle.roc_cli.specs.Done.{Rejects}
+use Rattle.roc_cli_nodes.specs.NodeEnds.{NodesEnd}
 use Rattle.roc_cli_nodes.specs.Nodes.{AreNodesEnded, IsChildBlamed}
 use Rattle.roc_cli.specs.Refused.{AreRefusedWords, IsRefused}
 use Rattle.roc_cli.specs.Stopped.{CutsOutput}
@@ -22,14 +22,14 @@ pub record IsShardless (call : WholeCall) : Type 0 where
   pub acceptable : Rejects call.run → ⊥
   pub right : (line : List ℕ) → IsRefused call.run line → ⊥
   pub uncut : CutsOutput call.run → ⊥
-  pub unrun : (end : SubmitEnd) → AreNodesEnded call end → ⊥
+  pub unrun : (end : NodesEnd) → AreNodesEnded call end → ⊥
   pub no_child : (shard : Shard) (status : Option ℕ) → IsChildBlamed call shard status → ⊥
   pub undone : Ends call.run (Ok tt) → ⊥
 
 -- the words are taken, and nothing was done
 pub record IsUndone (call : WholeCall) : Type 0 where
   pub taken : (line : List ℕ) → AreRefusedWords call.run line → ⊥
-  pub unrun : (end : SubmitEnd) → AreNodesEnded call end → ⊥
+  pub unrun : (end : NodesEnd) → AreNodesEnded call end → ⊥
   pub no_child : (shard : Shard) (status : Option ℕ) → IsChildBlamed call shard status → ⊥
   pub undone : Ends call.run (Ok tt) → ⊥
 

@@ -1,25 +1,36 @@
--- The end of a server, or of stops, as that of a coordinator
-use Rattle.std.specs.Prelude.{◌≡◌, ℕ, Bool, List, Option, Result}
+-- What the loop of each command tells, by how nodes end
+use Rattle.std.specs.Prelude.{◌≡◌, ℕ, Bool, List, [], Option, Result, option_map, unwrap_or}
 use Rattle.roc_base.specs.declared.node.Shard.{Shard}
 use Rattle.roc_io.specs.declared.link.Addr.{Addr}
+use Rattle.roc_sched.specs.declared.line.Request.{Request}
 use Rattle.roc_node.specs.NodeEvent.{NodeSetting}
 use Rattle.roc_node_serve.specs.declared.ends.ServeEnd.{ServeEnd}
 use Rattle.roc_node_submit.specs.declared.ends.SubmitEnd.{SubmitEnd}
-use Rattle.roc_node_serve.specs.ServeEnd.{Serves}
+use Rattle.roc_node_serve.specs.Keeping.{ServesWith}
 use Rattle.roc_io.specs.Observed.{AddsUnless}
 use Rattle.roc_node_local.specs.declared.stops.StopEnd.{StopEnd}
-use Rattle.roc_node_submit.specs.SubmitEnd.{any_address}
+use Rattle.roc_node_submit.specs.SubmitEnd.{any_address, BindsAndSubmits}
 use Rattle.roc_node_local.specs.Stops.{SendsStops, stops_unbound}
 use Rattle.roc_node_local.specs.declared.local.LocalEnd.TheVariants.{ChildFault}
 use Rattle.roc_node_local.specs.Local.{LocalAsk, LocalCall, RunsLocal, BlamesChild, local_end_of}
-use Rattle.roc_io.specs.Call.{NodeCall, LinkCall}
+use Rattle.roc_io.specs.Call.{NodeCall, LinkCall, ChildrenCall}
+use Rattle.roc_cli_words.specs.declared.command.Serving.{Serving}
 use Rattle.roc_cli_files.specs.declared.fault.Fault.{Fault}
-use Rattle.roc_cli_nodes.specs.Call.{WholeCall}
+use Rattle.roc_cli_nodes.specs.Call.{RunCall, DiskCall}
+use Rattle.roc_cli_nodes.specs.NodeEnds.{NodesEnd, end_of_serve, end_of_submit, end_of_stops}
 use Rattle.roc_cli_nodes.specs.Ends.{LaunchEnds, LoopEnded}
-use Rattle.roc_cli_nodes.specs.Nodes.{as_submit_end, stop_as_submit_end, LocalEnded, IsChildBlamed}
+use Rattle.roc_cli_nodes.specs.Nodes.{AreRunHere, BlamesChildOf}
 
-abbrev pub ServesAs : NodeSetting → Shard → (own : Addr) → (turns : ℕ) → (counts : Bool) → NodeCall → SubmitEnd → Type 0
-ServesAs S shard own turns counts call end = (e : ServeEnd) × (as_submit_end e ≡ end) × Serves S shard own turns counts call e
+-- the name of the journal, where there is one
+abbrev pub journal_named : Serving → Option (List ℕ)
+journal_named asked = option_map (λ name. name.now) asked.journal
+
+abbrev pub ServesAs : DiskCall → (journal : Option (List ℕ)) → NodeSetting → Shard → (own : Addr) → (turns : ℕ) → (counts : Bool) → NodeCall → NodesEnd → Type 0
+ServesAs disk journal S shard own turns counts call end =
+    (e : ServeEnd) × (end_of_serve (unwrap_or journal []) e ≡ end) × ServesWith disk.of disk.old disk.new journal S shard own turns counts call e
+
+abbrev pub SubmitsAs : NodeSetting → (coord : ℕ) → List Request → (turns : ℕ) → NodeCall → NodesEnd → Type 0
+SubmitsAs S coord requests turns call end = (e : SubmitEnd) × (end_of_submit e ≡ end) × BindsAndSubmits S coord requests turns call e
 
 -- what sending stops does to a link
 pub record StopsLink (tag : List ℕ) (cluster : List Addr) (link : LinkCall) (end : StopEnd) : Type 0 where
@@ -27,11 +38,11 @@ pub record StopsLink (tag : List ℕ) (cluster : List Addr) (link : LinkCall) (e
   pub sends : SendsStops end tag cluster link.old link.new
   pub arrivals : link.new.arrivals ≡ link.old.arrivals
 
-abbrev pub StopsAs : (tag : List ℕ) → (cluster : List Addr) → LinkCall → SubmitEnd → Type 0
-StopsAs tag cluster link end = (e : StopEnd) × (stop_as_submit_end e ≡ end) × StopsLink tag cluster link e
+abbrev pub StopsAs : (tag : List ℕ) → (cluster : List Addr) → LinkCall → NodesEnd → Type 0
+StopsAs tag cluster link end = (e : StopEnd) × (end_of_stops e ≡ end) × StopsLink tag cluster link e
 
-abbrev pub LocalAs : LocalAsk → LocalCall → SubmitEnd → Type 0
-LocalAs asked call end = RunsLocal asked call (local_end_of end)
+abbrev pub LocalAs : LocalAsk → LocalCall → NodesEnd → Type 0
+LocalAs asked call end = (e : SubmitEnd) × (end_of_submit e ≡ end) × RunsLocal asked call (local_end_of e)
 
 abbrev pub LocalBlames : LocalAsk → LocalCall → Shard → Option ℕ → Type 0
 LocalBlames asked call shard status =
@@ -42,8 +53,8 @@ abbrev pub LocalLoopEnded : LocalAsk → LocalCall → Result Unit Fault → Typ
 LocalLoopEnded asked call result = LoopEnded (LocalAs asked call) (LocalBlames asked call) result
 
 -- the same, or why its files were not read
-abbrev pub LocalLaunched : WholeCall → Result Unit Fault → Type 0
-LocalLaunched call result = LaunchEnds call.run (λ end. LocalEnded call.run call.link call.children (local_end_of end)) (IsChildBlamed call) result
+abbrev pub LocalLaunched : RunCall → LinkCall → ChildrenCall → Result Unit Fault → Type 0
+LocalLaunched call link children result = LaunchEnds call (AreRunHere call link children) (BlamesChildOf call link children) result
 
 -- no child is to blame
 abbrev pub no_child : Shard → Option ℕ → Type 0

@@ -1,8 +1,8 @@
 use Rattle.std.proofs.Common.{inl, refl, sym, ◌∙◌}
-use Rattle.roc_cli_nodes.proofs.Named.{needing_named}
+use Rattle.roc_cli_nodes.proofs.Named.{needing_named, journal_unnamed}
 use Rattle.roc_cli.proofs.Loading.{launched}
 use Rattle.roc_cli.proofs.Faults.{words_refused}
-use Rattle.roc_cli.proofs.Counts.{none_counted, unlinked, uncounted}
+use Rattle.roc_cli.proofs.Counts.{none_counted, unlinked, undisked, uncounted}
 use Rattle.roc_cli.proofs.command.perform.Goals as goal
 
 -- a command with nodes
@@ -36,7 +36,25 @@ returns-then-needs_nodes-clause-content g c = c.launch.ensures.content
 pub returns-then-needs_nodes-clause-unspawned : goal.returns-then-needs_nodes-clause-unspawned
 returns-then-needs_nodes-clause-unspawned g c = c.launch.ensures.unspawned _ c.in-Ok.ensures.answers
 
+pub returns-then-needs_nodes-clause-disk_faults : goal.returns-then-needs_nodes-clause-disk_faults
+returns-then-needs_nodes-clause-disk_faults g c = c.launch.ensures.disk_faults
+
+pub returns-then-needs_nodes-clause-unopened : goal.returns-then-needs_nodes-clause-unopened
+returns-then-needs_nodes-clause-unopened g c = c.launch.ensures.unopened
+
+pub returns-then-needs_nodes-clause-unkept : goal.returns-then-needs_nodes-clause-unkept
+returns-then-needs_nodes-clause-unkept g c none = c.launch.ensures.unkept (journal_unnamed _ _ c.in-Ok.ensures.answers none)
+
 -- one without
+pub returns-else-needs_nodes-clause-disk_faults : goal.returns-else-needs_nodes-clause-disk_faults
+returns-else-needs_nodes-clause-disk_faults g c = undisked _ _ _ (c.perform_alone.ensures.ends _ c.in-Ok.ensures.answers)
+
+pub returns-else-needs_nodes-clause-unopened : goal.returns-else-needs_nodes-clause-unopened
+returns-else-needs_nodes-clause-unopened g c early = refl
+
+pub returns-else-needs_nodes-clause-unkept : goal.returns-else-needs_nodes-clause-unkept
+returns-else-needs_nodes-clause-unkept g c none = refl
+
 pub returns-else-needs_nodes-clause-unspawned : goal.returns-else-needs_nodes-clause-unspawned
 returns-else-needs_nodes-clause-unspawned g c none = refl
 
@@ -97,3 +115,12 @@ returns-in-Err-clause-link_faults g c = uncounted _ _ c.refusal.ensures.no_link
 
 pub returns-in-Err-clause-content : goal.returns-in-Err-clause-content
 returns-in-Err-clause-content g c name = refl
+
+pub returns-in-Err-clause-disk_faults : goal.returns-in-Err-clause-disk_faults
+returns-in-Err-clause-disk_faults g c = uncounted _ _ c.refusal.ensures.no_disk
+
+pub returns-in-Err-clause-unopened : goal.returns-in-Err-clause-unopened
+returns-in-Err-clause-unopened g c early = refl
+
+pub returns-in-Err-clause-unkept : goal.returns-in-Err-clause-unkept
+returns-in-Err-clause-unkept g c none = refl

@@ -1,13 +1,15 @@
 use Rattle.std.proofs.Common.{refl}
-use Rattle.roc_cli.proofs.Told.{fault_answers, done_answers}
-use Rattle.roc_cli.proofs.Counts.{file_counted, sink_counted, link_counted, quiet_done, quiet_told}
+use Rattle.roc_cli.proofs.Fits.{fitting}
+use Rattle.roc_cli.proofs.Told.{fault_answers}
+use Rattle.roc_cli.proofs.Finished.{done_answers}
+use Rattle.roc_cli.proofs.Counts.{file_counted, sink_counted, link_counted, disk_counted, quiet_done, quiet_told, unkept_done, unkept_told}
 use Rattle.roc_cli.proofs.command.run.Goals as goal
 
 pub returns-in-Ok-clause-answers : goal.returns-in-Ok-clause-answers
-returns-in-Ok-clause-answers g c = done_answers _ _ (c.fitting_calls_are_faultless.ensures _) c.in-Ok.ensures.ends c.in-Ok.ensures.failed c.in-Ok.ensures.childless
+returns-in-Ok-clause-answers g c = done_answers _ _ (fitting c.texts_keep_laws.ensures _) c.in-Ok.ensures.ends c.in-Ok.ensures.failed c.in-Ok.ensures.childless
 
 pub returns-in-Err-clause-answers : goal.returns-in-Err-clause-answers
-returns-in-Err-clause-answers g c = fault_answers _ _ c.in-Err.fault _ (c.fitting_calls_are_faultless.ensures _) c.in-Err.ensures.ends c.in-Err.ensures.failed c.tell.ensures.told
+returns-in-Err-clause-answers g c = fault_answers _ _ c.in-Err.fault _ (fitting c.texts_keep_laws.ensures _) c.in-Err.ensures.ends c.in-Err.ensures.failed c.tell.ensures.told
 
 pub returns-in-Err-clause-quiet : goal.returns-in-Err-clause-quiet
 returns-in-Err-clause-quiet g c = quiet_told _ c.in-Err.fault _ _ _ c.tell.ensures.told c.in-Err.ensures.quiet c.in-Err.ensures.untouched
@@ -56,3 +58,15 @@ returns-in-Ok-clause-unspawned g c = c.in-Ok.ensures.unspawned
 
 pub returns-in-Err-clause-unspawned : goal.returns-in-Err-clause-unspawned
 returns-in-Err-clause-unspawned g c = c.in-Err.ensures.unspawned
+
+pub returns-in-Ok-clause-disk_faults : goal.returns-in-Ok-clause-disk_faults
+returns-in-Ok-clause-disk_faults g c = c.in-Ok.ensures.disk_faults
+
+pub returns-in-Err-clause-disk_faults : goal.returns-in-Err-clause-disk_faults
+returns-in-Err-clause-disk_faults g c = disk_counted c.in-Err.fault _ _ _ _ c.tell.ensures.told c.in-Err.ensures.disk_faults
+
+pub returns-in-Ok-clause-undisked : goal.returns-in-Ok-clause-undisked
+returns-in-Ok-clause-undisked g c = unkept_done _ _ c.in-Ok.ensures.unkept
+
+pub returns-in-Err-clause-undisked : goal.returns-in-Err-clause-undisked
+returns-in-Err-clause-undisked g c = unkept_told _ c.in-Err.fault _ _ _ c.tell.ensures.told c.in-Err.ensures.unkept c.in-Err.ensures.unopened

@@ -1,7 +1,9 @@
-use Rattle.std.proofs.Common.{subst}
+use Rattle.std.proofs.Common.{refl, sym, ap, subst, ◌∙◌}
+use Rattle.roc_cli_nodes.specs.Words.{journal_of}
 use Rattle.roc_cli_words.specs.Answer.{AreWordsOf}
 use Rattle.roc_cli_words.specs.Commands.{command_of}
 use Rattle.roc_cli_nodes.proofs.Looping.{served_among, submitted_among, stopped_among, local_among}
+use Rattle.roc_cli_nodes.proofs.Reading.{caused}
 use Rattle.roc_cli_nodes.proofs.launching.launch.Goals as goal
 
 pub returns-in-Serve-clause-ends : goal.returns-in-Serve-clause-ends
@@ -22,3 +24,15 @@ returns-in-Local-clause-ends g c words given =
 
 pub returns-in-Local-clause-unspawned : goal.returns-in-Local-clause-unspawned
 returns-in-Local-clause-unspawned g c words given none = absurd (none (_, _, _, _, subst (λ a. AreWordsOf words (command_of a)) c.in-Local.is given))
+
+pub returns-in-Serve-clause-unkept : goal.returns-in-Serve-clause-unkept
+returns-in-Serve-clause-unkept g c none = c.serve_files.ensures.unkept (ap (λ a. journal_of (command_of a)) (sym c.in-Serve.is) ∙ none)
+
+pub returns-in-Submit-clause-disk_faults : goal.returns-in-Submit-clause-disk_faults
+returns-in-Submit-clause-disk_faults g c = caused _ _ _ _ c.submit_files.ensures.no_disk refl
+
+pub returns-in-Stop-clause-disk_faults : goal.returns-in-Stop-clause-disk_faults
+returns-in-Stop-clause-disk_faults g c = caused _ _ _ _ c.stop_files.ensures.no_disk refl
+
+pub returns-in-Local-clause-disk_faults : goal.returns-in-Local-clause-disk_faults
+returns-in-Local-clause-disk_faults g c = caused _ _ _ _ c.local_files.ensures.no_disk refl

@@ -1,6 +1,7 @@
 use Rattle.std.proofs.Common.{inl, refl}
 use Rattle.roc_cli_words.specs.Commands.{submit}
 use Rattle.roc_cli_nodes.proofs.Looping.{submit_ended}
+use Rattle.roc_cli_nodes.proofs.Reading.{files_undisked}
 use Rattle.roc_cli_nodes.proofs.running.submit_files.Goals as goal
 
 -- the files were read
@@ -11,3 +12,6 @@ returns-in-Ok-clause-ends g c words given =
 -- they were not
 pub returns-in-Err-clause-ends : goal.returns-in-Err-clause-ends
 returns-in-Err-clause-ends g c words given = inl (_, (submit _ _ _ _ _, given, refl), c.in-Err.ensures.fails)
+
+pub returns-in-Err-clause-no_disk : goal.returns-in-Err-clause-no_disk
+returns-in-Err-clause-no_disk g c = files_undisked _ _ _ _ c.in-Err.fault c.in-Err.ensures.fails

@@ -1,0 +1,17 @@
+-- Why a command whose words and files fit is done, and one whose files are none is not
+use Rattle.roc_cli_nodes.specs.Call.{WholeCall}
+use Rattle.roc_cli.specs.Inner.Faultless.{AreFitting}
+use Rattle.roc_cli.specs.Inner.Texts.{TextLaws}
+use Rattle.roc_cli.proofs.Fitting.{faultless}
+use Rattle.roc_cli.proofs.FittingNodes.{nodes_faultless, shardless}
+use Rattle.roc_cli.proofs.Unfitting.{unplanned, unwritten, unplayed}
+
+pub fitting : TextLaws → (call : WholeCall) → AreFitting call
+fitting laws call = record {
+  files = faultless laws call.run;
+  nodes = nodes_faultless laws call.run;
+  shardless = shardless laws call;
+  planless = unplanned laws call;
+  workloadless = unwritten call;
+  scheduleless = unplayed laws call;
+}

@@ -1,0 +1,15 @@
+use Rattle.roc_cli.proofs.FittingNodes.{only_memory}
+use Rattle.roc_cli.proofs.fit.texts_keep_laws.Goals as goal
+
+pub returns : goal.returns
+returns c = record {
+  one_tree = c.tree_is_unique.ensures;
+  no_fault = c.text_has_no_fault.ensures;
+  one_plan = c.plans_are_unique.ensures.plan;
+  no_refusal = c.refusals_are_unique.ensures.no_plan;
+  no_cluster_fault = only_memory c.cluster_files_keep_the_rules.ensures;
+  one_list = c.lines_are_unique.ensures.requests;
+  no_list_fault = c.texts_are_right_or_wrong.ensures.one_of_each;
+  no_text_fault = c.sent_schedules_have_no_fault.ensures;
+  sent = c.sent_schedules_are_played.ensures.sent;
+}

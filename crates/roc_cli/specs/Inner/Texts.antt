@@ -1,0 +1,38 @@
+-- What the laws say of texts, plans and schedules
+use Rattle.std.specs.Prelude.{◌≡◌, ℕ, List, Option}
+use Rattle.roc_io.specs.declared.link.Addr.{Addr}
+use Rattle.roc_lang.specs.Syntax.{Tree}
+use Rattle.roc_lang.specs.declared.fault.What.{What}
+use Rattle.roc_lang_parse.specs.Fault.{IsWorkloadText, IsFirstFault}
+use Rattle.roc_program.specs.Program.{Workload}
+use Rattle.roc_plan.specs.Groups.{Plan}
+use Rattle.roc_views.specs.World.{World}
+use Rattle.roc_views.specs.Run.{Stepped}
+use Rattle.roc_cluster.specs.declared.fault.ClusterFault.{ClusterFault}
+use Rattle.roc_cluster.specs.declared.fault.ClusterFault.TheVariants.{NoMemory}
+use Rattle.roc_cluster.specs.File.{IsClusterFile}
+use Rattle.roc_cluster.specs.Answer.{IsClusterFault}
+use Rattle.roc_report.specs.Line.{Line}
+use Rattle.roc_check.specs.Checked.{IsPlanOf, IsPlanOfText, IsRefusedBy}
+use Rattle.roc_sched.specs.declared.fault.What.{What as ScheduleWhat}
+use Rattle.roc_sched.specs.declared.line.Request.{Request}
+use Rattle.roc_sched.specs.Schedule.{AreRequests, IsRequestFault}
+use Rattle.roc_replay.specs.declared.asked.BoundLine.{BoundLine}
+use Rattle.roc_replay.specs.BoundLine.{IsScheduleOf}
+use Rattle.roc_replay.specs.Played.{IsPlayed, AsksOnlySent}
+use Rattle.roc_replay.specs.Ended.{IsTextFault}
+
+pub record TextLaws : Type 0 where
+  pub one_tree : (bytes : List ℕ) (t u : Tree) → IsWorkloadText bytes t → IsWorkloadText bytes u → t ≡ u
+  pub no_fault : (bytes : List ℕ) (t : Tree) (line : ℕ) (what : What) → IsWorkloadText bytes t → IsFirstFault bytes line what → ⊥
+  pub one_plan : (bytes : List ℕ) (one other : Plan) → IsPlanOfText bytes one → IsPlanOfText bytes other → one ≡ other
+  pub no_refusal : (program : Workload) (plan : Plan) (line : Line) → IsPlanOf program plan → IsRefusedBy program line → ⊥
+  pub no_cluster_fault :
+      (shards : ℕ) (bytes : List ℕ) (cluster : List Addr) (fault : ClusterFault) → IsClusterFile shards bytes cluster → IsClusterFault shards bytes fault
+      → fault ≡ NoMemory
+  pub one_list : (text : List ℕ) (some others : List Request) → AreRequests text some → AreRequests text others → some ≡ others
+  pub no_list_fault : (text : List ℕ) (requests : List Request) (line : ℕ) (what : ScheduleWhat) → AreRequests text requests → IsRequestFault text line what → ⊥
+  pub no_text_fault :
+      (plan : Plan) (text : List ℕ) (lines : List BoundLine) → IsScheduleOf plan.program text lines → AsksOnlySent plan lines
+      → (number : ℕ) (fault : ScheduleWhat) (old new : Option (List ℕ)) → IsTextFault plan text number fault old new → ⊥
+  pub sent : (plan : Plan) (lines : List BoundLine) (steps : List Stepped) (w : World) → IsPlayed plan lines steps w → AsksOnlySent plan lines

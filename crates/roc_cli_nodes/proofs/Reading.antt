@@ -1,0 +1,34 @@
+-- What is counted of a disk, and that files which do not hold what is needed blame none
+use Rattle.std.proofs.Common.{◌≡◌, ℕ, Bool, false, List, Option, refl, sym, subst}
+use Rattle.roc_io.specs.Cause.{HasCause}
+use Rattle.roc_plan.specs.Groups.{Plan}
+use Rattle.roc_cli_files.specs.declared.fault.Fault.{Fault}
+use Rattle.roc_cli_files.specs.declared.fault.Fault.TheVariants.{Disk}
+use Rattle.roc_cli_files.specs.Fault.{blames_disk}
+use Rattle.roc_cli_files.specs.Held.{NodeFiles}
+use Rattle.roc_cli_files.specs.Input.{PlanFails}
+use Rattle.roc_cli_files.specs.Listed.{ClusterFails, RequestsFail}
+use Rattle.roc_cli_files.specs.NodeNames.{NodesFail, by_workload, by_shard, by_cluster, by_requests}
+
+-- one cause for another
+pub caused : (test other : Bool) (old new : ℕ) → test ≡ other → HasCause other old new → HasCause test old new
+caused test other old new e h = subst (λ b. HasCause b old new) (sym e) h
+
+module _ (content : List ℕ → Option (List ℕ)) where
+  plan_undisked : (name : List ℕ) (old new : Option (List ℕ)) (fault : Fault) → PlanFails content name old new fault → blames_disk fault ≡ false
+  plan_undisked name old new (Disk file) h = absurd h.0
+  plan_undisked name old new _ h = refl
+
+  cluster_undisked : (name : List ℕ) (shards : ℕ) (fault : Fault) → ClusterFails content name shards fault → blames_disk fault ≡ false
+  cluster_undisked name shards (Disk file) h = absurd h
+  cluster_undisked name shards _ h = refl
+
+  requests_undisked : (name : List ℕ) (plan : Plan) (fault : Fault) → RequestsFail content name plan.program fault → blames_disk fault ≡ false
+  requests_undisked name plan (Disk file) h = absurd h
+  requests_undisked name plan _ h = refl
+
+  pub files_undisked : (files : NodeFiles) (old new : Option (List ℕ)) (fault : Fault) → NodesFail content files old new fault → blames_disk fault ≡ false
+  files_undisked files old new _ (by_workload fault fails) = plan_undisked files.workload old new fault fails
+  files_undisked files old new _ (by_cluster plan fault planned fails same) = cluster_undisked files.cluster plan.program.shards fault fails
+  files_undisked files old new _ (by_requests plan addrs name fault planned held is fails same) = requests_undisked name plan fault fails
+  files_undisked files old new _ (by_shard lacks same) = refl
