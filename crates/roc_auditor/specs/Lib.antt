@@ -1,0 +1,4 @@
+pub mod Verdict
+pub mod Taken
+pub mod VerdictText
+pub mod Inner
