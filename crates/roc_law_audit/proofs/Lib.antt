@@ -1,0 +1,14 @@
+pub mod Standing
+pub mod Explained
+pub mod Beside
+pub mod Stopped
+pub mod Effects
+pub mod Events
+pub mod Fronts
+pub mod ServerLogs
+pub mod CoordLogs
+pub mod Decided
+pub mod WaitsThere
+pub mod Together
+pub mod Verdicts
+pub mod Existing

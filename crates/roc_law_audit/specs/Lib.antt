@@ -1,0 +1,2 @@
+pub mod InTheWorld
+pub mod LogsOfRuns
