@@ -1,5 +1,6 @@
 -- How the turns of a server's node end.
-use Rattle.std.proofs.Common.{◌≡◌, inl, inr, ⊎_elim, ℕ, ◌<◌, ◌≤◌, Bool, true, false, List, [], ◌∷◌, map, length, None, refl, sym, ◌∙◌, ap, subst, append-nil, arith}
+use Rattle.std.proofs.Common.{◌≡◌, inl, inr, ⊎_elim, ℕ, ◌<◌, ◌≤◌, Bool, true, false, List, [], ◌∷◌, ◌++◌, map, length, None, refl, sym, ◌∙◌, ap, subst, append-nil, arith}
+use Rattle.roc_book.specs.Call.{BookView}
 use Rattle.roc_disk.specs.declared.disk.Disk.{Ghosts as DiskOf}
 use Rattle.roc_disk.proofs.Moments.{joined, weaker}
 use Rattle.roc_io.specs.Call.{LinkView}
@@ -7,6 +8,8 @@ use Rattle.roc_io.specs.Cause.{HasCause}
 use Rattle.roc_io.specs.Link.{LinkEvent, Reception, receiving, came, vain}
 use Rattle.roc_kept.specs.declared.kept.KeptServer.{KeptServer}
 use Rattle.roc_kept.specs.Kept.{is_too_long, Recovers}
+use Rattle.roc_log.specs.declared.line.LogLine.{LogLine}
+use Rattle.roc_log.specs.LogLine.{lines_text}
 use Rattle.roc_msg.specs.declared.msg.Msg.{Msg}
 use Rattle.roc_msg.specs.declared.outbox.Outgoing.{Outgoing}
 use Rattle.roc_wire.specs.declared.header.Header.{Header}
@@ -20,8 +23,11 @@ use Rattle.roc_node_serve.specs.Keeping.{RecoversNode, RecoversOnWay, IsLeftOnWa
 use Rattle.roc_node_serve.specs.ServeEnd.{behind, filled_at, amid, RunsServer}
 use Rattle.roc_node_serve.specs.ServerRun.{ServerNodeState, IsServerRunFrom}
 use Rattle.roc_node_serve.specs.Inner.JournalTurn.{LeftAround, KeepsBy, KeepsOn, CallsDisk, LeavesJournal, FillsAt}
-use Rattle.roc_node_serve.specs.Inner.ServerTurn.{bare, node_of, TakesTurn, RanSo, ComesOfTurns, are_over, are_wanted, are_cut_off, are_filled, are_broken}
+use Rattle.roc_node_serve.specs.Inner.LogTurn.{Took, TookAll}
+use Rattle.roc_node_serve.specs.Inner.ServerTurn.{bare, node_of, TakesTurn, RanSo, ComesOfTurns, are_over, are_wanted, are_cut_off, are_filled, are_broken, are_unlogged}
 use Rattle.roc_node_serve.proofs.Journals.{CountsNow, kept_recovers, left_behind, around_reached, too_long_for}
+use Rattle.roc_node_serve.proofs.Logs.{Took-trans, front_taken}
+use Rattle.roc_node_serve.proofs.Servers.{continued, event_behind}
 use Rattle.roc_node_serve.proofs.Turning.{ran_more}
 
 -- ---- what calls of the disk came of several turns
@@ -65,17 +71,18 @@ none_in_vain last event vainly is = of_vain event (sym (ap (map receiving) vainl
 
 module _ {D : Type 0} (disk : DiskOf D) (counts : CountsNow disk) (old mid new : D) (S : NodeSetting) (first : ServerNodeState) (start : KeptServer) (before after : ServerNode)
     (events : List NodeEvent) (messages : List Outgoing)
-    (traffic : List LinkEvent) (run : IsServerRunFrom S first events (node_of before messages traffic false)) (k : KeepsOn disk old mid S first events start before.server) where
+    (traffic : List LinkEvent) (logged : List LogLine) (run : IsServerRunFrom S first events (node_of before messages traffic logged false))
+    (k : KeepsOn disk old mid S first events start before.server) where
   abbrev here : ServerNodeState
-  here = node_of before messages traffic false
+  here = node_of before messages traffic logged false
 
   on_way : (image : List ℕ) → RecoversNode S.plan S.header.tag start.server.state.shard here image → RecoversOnWay S first start.server.state.shard events image
   on_way image recovers = record { front = events; rest = []; is = sym (append-nil events); node = here; run = run; recovers = recovers }
 
-  pub leaves_amid : (last : List Reception) (failed : Bool) → KeepsBy disk mid new S (LeftAround S (bare before) last) before.server after.server failed false
+  pub leaves_amid : (last : List Reception) (failed goes : Bool) → KeepsBy disk mid new S (LeftAround S (bare before) last) before.server after.server failed goes
       → LeavesJournal disk old new S first start.server.state.shard start (amid events here last)
-  leaves_amid last failed h =
-      let around = around_reached S first start.server.state.shard events before messages traffic run k.shard last in
+  leaves_amid last failed goes h =
+      let around = around_reached S first start.server.state.shard events before messages traffic logged run k.shard last in
       let far = IsLeftOnWay S first start.server.state.shard (amid events here last) in record {
         leaves = λ tells name kept image left.
             around image (left_behind disk counts mid new name _ tells (h.any_moment tells name (k.kept (h.told tells) name kept)) image left);
@@ -90,7 +97,7 @@ module _ {D : Type 0} (disk : DiskOf D) (counts : CountsNow disk) (old mid new :
   leaves_vainly last failed vainly h =
       let around : (image : List ℕ) → LeftAround S (bare before) last image → RecoversNode S.plan S.header.tag start.server.state.shard here image =
       λ image left. ⊎_elim (λ reached. reached) (λ next. absurd (none_in_vain last next.event vainly next.is))
-      (around_reached S first start.server.state.shard events before messages traffic run k.shard last image left) in
+      (around_reached S first start.server.state.shard events before messages traffic logged run k.shard last image left) in
       let far = IsLeftOnWay S first start.server.state.shard (behind events here) in record {
         leaves = λ tells name kept image left.
             around image (left_behind disk counts mid new name _ tells (h.any_moment tells name (k.kept (h.told tells) name kept)) image left);
@@ -113,9 +120,9 @@ module _ {D : Type 0} (disk : DiskOf D) (counts : CountsNow disk) (old mid new :
 
 -- behind turns that went well
 pub leaves_behind : {D : Type 0} (disk : DiskOf D) (old new : D) (S : NodeSetting) (first : ServerNodeState) (start : KeptServer) (after : ServerNode) (events : List NodeEvent)
-    (messages : List Outgoing) (traffic : List LinkEvent) (stopped : Bool)
-    → KeepsOn disk old new S first events start after.server → LeavesJournal disk old new S first start.server.state.shard start (behind events (node_of after messages traffic stopped))
-leaves_behind disk old new S first start after events messages traffic stopped k = record {
+    (messages : List Outgoing) (traffic : List LinkEvent) (logged : List LogLine) (stopped : Bool)
+    → KeepsOn disk old new S first events start after.server → LeavesJournal disk old new S first start.server.state.shard start (behind events (node_of after messages traffic logged stopped))
+leaves_behind disk old new S first start after events messages traffic logged stopped k = record {
   leaves = λ tells name kept image left.
       subst (λ h. Recovers S.plan S.header.tag h image after.server.server.state after.server.server.viewing) k.shard
       (kept_recovers disk new S.plan name S.header.tag _ _ after.server.keeper (k.kept tells name kept) image left);
@@ -125,61 +132,95 @@ leaves_behind disk old new S first start after events messages traffic stopped k
 -- ---- the ends
 
 module _ {D : Type 0} (disk : DiskOf D) (counts : CountsNow disk) (old mid new : D) (S : NodeSetting) (first : ServerNodeState) (start : KeptServer) (before after : ServerNode) (turns count : ℕ)
-    (a b c : LinkView) (below : count < turns)
-    (r : RanSo disk old mid S first count false start before a b) where
+    (logs : Bool) (a b c : LinkView) (p q s : BookView) (below : count < turns)
+    (r : RanSo disk old mid logs S first count false start before a b p q) where
   abbrev there : ServerNodeState
-  there = node_of before r.messages r.traffic false
+  there = node_of before r.messages r.traffic r.logged false
+
+  -- the book took no more than before
+  took_all : s ≡ q → TookAll logs p s S.plan.program first there
+  took_all same = record { lines = r.lines; is = r.adds; took = subst (λ v. Took logs p v (lines_text S.plan.program r.lines)) (sym same) r.took }
 
   runs_on : (last : List Reception) → length last ≤ 1 → Moves b c (map receiving last) → RunsServer S first turns last r.events there a c
   runs_on last one moves = let counted = r.counted in record { run = r.run; few = omega arith; moves = Moves-trans a b c r.traffic (map receiving last) r.moves moves }
 
-  pub ends_wanted : TakesTurn disk mid new S before after b c turn.NoMemory → ComesOfTurns disk old new S first turns start after a c run.NoMemory
+  pub ends_wanted : TakesTurn disk mid new logs S before after b c q s turn.NoMemory → ComesOfTurns disk old new logs S first turns start after a c p s run.NoMemory
   ends_wanted t = record {
     reached = amid r.events there t.last;
-    runs = are_wanted r.events there t.last t.one (runs_on t.last t.one t.turns);
-    leaves = leaves_amid disk counts old mid new S first start before after r.events r.messages r.traffic r.run r.keeps t.last false t.keeps;
+    runs = are_wanted r.events there t.last t.one (runs_on t.last t.one t.turns.0);
+    leaves = leaves_amid disk counts old mid new S first start before after r.events r.messages r.traffic r.logged r.run r.keeps t.last false false t.keeps;
+    took = took_all t.turns.1;
   }
 
-  pub ends_cut_off : TakesTurn disk mid new S before after b c turn.LinkFault → ComesOfTurns disk old new S first turns start after a c run.LinkFault
+  pub ends_cut_off : TakesTurn disk mid new logs S before after b c q s turn.LinkFault → ComesOfTurns disk old new logs S first turns start after a c p s run.LinkFault
   ends_cut_off t = let counted = r.counted in record {
     reached = behind r.events there;
     runs = are_cut_off r.events there refl (omega arith) (subst (λ last. RunsServer S first turns last r.events there a c) t.turns.0 (runs_on t.last t.one t.turns.1));
-    leaves = leaves_vainly disk counts old mid new S first start before after r.events r.messages r.traffic r.run r.keeps t.last false t.turns.0 t.keeps;
+    leaves = leaves_vainly disk counts old mid new S first start before after r.events r.messages r.traffic r.logged r.run r.keeps t.last false t.turns.0 t.keeps;
+    took = took_all t.turns.2;
   }
 
-  pub ends_filled : TakesTurn disk mid new S before after b c turn.Full → ComesOfTurns disk old new S first turns start after a c run.Full
+  pub ends_filled : TakesTurn disk mid new logs S before after b c q s turn.Full → ComesOfTurns disk old new logs S first turns start after a c p s run.Full
   ends_filled t = let fills = t.turns.0 in record {
     reached = filled_at r.events there fills.header fills.msg;
     runs = are_filled r.events there fills.packet fills.header fills.msg fills.brings fills.full.records refl
         (subst (λ last. RunsServer S first turns last r.events there a c) fills.is (runs_on t.last t.one t.turns.1));
-    leaves = leaves_filled disk counts old mid new S first start before after r.events r.messages r.traffic r.run r.keeps fills.header fills.msg fills.full.untouched fills.full.too_long;
+    leaves = leaves_filled disk counts old mid new S first start before after r.events r.messages r.traffic r.logged r.run r.keeps fills.header fills.msg fills.full.untouched fills.full.too_long;
+    took = took_all t.turns.2;
   }
 
-  pub ends_broken : TakesTurn disk mid new S before after b c turn.Disk → ComesOfTurns disk old new S first turns start after a c run.Disk
+  pub ends_broken : TakesTurn disk mid new logs S before after b c q s turn.Disk → ComesOfTurns disk old new logs S first turns start after a c p s run.Disk
   ends_broken t = let breaks = t.turns.0 in record {
     reached = amid r.events there (came breaks.packet ∷ []);
     runs = are_broken r.events there breaks.packet breaks.header breaks.msg breaks.brings refl
         (subst (λ last. RunsServer S first turns last r.events there a c) breaks.is (runs_on t.last t.one t.turns.1));
     leaves = subst (λ last. LeavesJournal disk old new S first start.server.state.shard start (amid r.events there last)) breaks.is
-        (leaves_amid disk counts old mid new S first start before after r.events r.messages r.traffic r.run r.keeps t.last true t.keeps);
+        (leaves_amid disk counts old mid new S first start before after r.events r.messages r.traffic r.logged r.run r.keeps t.last true false t.keeps);
+    took = took_all t.turns.2;
   }
 
-  pub ends_stopped : TakesTurn disk mid new S before after b c turn.Stopped → ComesOfTurns disk old new S first turns start after a c (run.Over true)
+  -- the book failed
+  pub ends_unlogged : TakesTurn disk mid new logs S before after b c q s turn.BookFault → ComesOfTurns disk old new logs S first turns start after a c p s run.BookFault
+  ends_unlogged t =
+      let cut = t.turns in
+      let traffic = r.traffic ++ receive_of cut.event ∷ [] in record {
+        reached = amid r.events there t.last;
+        runs = are_unlogged r.events there t.last cut.event cut.is refl (runs_on t.last t.one cut.moves);
+        leaves = leaves_amid disk counts old mid new S first start before after r.events r.messages r.traffic r.logged r.run r.keeps t.last false true t.keeps;
+        took = record {
+          kept = cut.took.0;
+          event = cut.event;
+          is = cut.is;
+          next = continued r.messages traffic r.logged cut.next;
+          after = event_behind r.messages traffic r.logged S before cut.event cut.next cut.leads;
+          lines = r.lines;
+          before = r.adds;
+          more = cut.next.logged;
+          adds = refl;
+          cut = cut.took.2.0;
+          took = Took-trans logs p q s _ _ r.took (front_taken logs q s _ cut.took);
+        };
+      }
+
+  pub ends_stopped : TakesTurn disk mid new logs S before after b c q s turn.Stopped → ComesOfTurns disk old new logs S first turns start after a c p s (run.Over true)
   ends_stopped t =
-      let all = ran_more disk old mid new S first start before after count true a b c t.last r t.turns t.keeps in
+      let all = ran_more disk old mid new S first start before after logs count true a b c p q s t.last r t.turns t.keeps in
       let counted = all.counted in record {
-        reached = behind all.events (node_of after all.messages all.traffic true);
-        runs = are_over true all.messages all.traffic all.events (inl refl) (record { run = all.run; few = omega arith; moves = subst (Moves a c) (sym (append-nil all.traffic)) all.moves });
-        leaves = leaves_behind disk old new S first start after all.events all.messages all.traffic true all.keeps;
+        reached = behind all.events (node_of after all.messages all.traffic all.logged true);
+        runs = are_over true all.messages all.traffic all.logged all.events (inl refl)
+            (record { run = all.run; few = omega arith; moves = subst (Moves a c) (sym (append-nil all.traffic)) all.moves });
+        leaves = leaves_behind disk old new S first start after all.events all.messages all.traffic all.logged true all.keeps;
+        took = record { lines = all.lines; is = all.adds; took = all.took };
       }
 
 -- all turns were taken
-pub ends_turns : {D : Type 0} (disk : DiskOf D) (old new : D) (S : NodeSetting) (first : ServerNodeState) (start : KeptServer) (after : ServerNode) (turns count : ℕ) (a b : LinkView)
-    → turns ≤ count → count ≤ turns → RanSo disk old new S first count false start after a b
-    → ComesOfTurns disk old new S first turns start after a b (run.Over false)
-ends_turns disk old new S first start after turns count a b least most r =
+pub ends_turns : {D : Type 0} (disk : DiskOf D) (old new : D) (S : NodeSetting) (first : ServerNodeState) (start : KeptServer) (after : ServerNode) (turns count : ℕ) (logs : Bool) (a b : LinkView)
+    (p q : BookView) → turns ≤ count → count ≤ turns → RanSo disk old new logs S first count false start after a b p q
+    → ComesOfTurns disk old new logs S first turns start after a b p q (run.Over false)
+ends_turns disk old new S first start after turns count logs a b p q least most r =
     let counted : length r.events ≡ turns = let so_many = r.counted in omega arith in record {
-      reached = behind r.events (node_of after r.messages r.traffic false);
-      runs = are_over false r.messages r.traffic r.events (inr counted) (record { run = r.run; few = omega arith; moves = subst (Moves a b) (sym (append-nil r.traffic)) r.moves });
-      leaves = leaves_behind disk old new S first start after r.events r.messages r.traffic false r.keeps;
+      reached = behind r.events (node_of after r.messages r.traffic r.logged false);
+      runs = are_over false r.messages r.traffic r.logged r.events (inr counted) (record { run = r.run; few = omega arith; moves = subst (Moves a b) (sym (append-nil r.traffic)) r.moves });
+      leaves = leaves_behind disk old new S first start after r.events r.messages r.traffic r.logged false r.keeps;
+      took = record { lines = r.lines; is = r.adds; took = r.took };
     }

@@ -17,6 +17,7 @@ use Rattle.roc_kept.specs.declared.fault.KeptFault.TheVariants as fault
 use Rattle.roc_kept.specs.declared.keeper.Keeper.{Keeper}
 use Rattle.roc_kept.specs.declared.kept.KeptServer.{KeptServer}
 use Rattle.roc_kept.specs.Kept.{kept_failed, is_broken, answers_full, is_lost, is_too_long, is_untried, KeepsTag, IsKeptOn, Recovers, RecoversEither}
+use Rattle.roc_log.specs.declared.line.LogLine.{LogLine}
 use Rattle.roc_msg.specs.declared.msg.Msg.{Msg}
 use Rattle.roc_msg.specs.declared.outbox.Outgoing.{Outgoing}
 use Rattle.roc_plan.specs.Groups.{Plan}
@@ -174,13 +175,13 @@ left_by_delivery S server_node packet header msg true is judges image left = inl
 left_by_delivery S server_node packet header msg false is judges image (inl before) = inl before
 left_by_delivery S server_node packet header msg false is judges image (inr comes) =
     let c = comes.0 in
-    let next = server_took S (server_heard (bare server_node) header packet.address) c.step c.reads in
+    let next = server_took S (server_heard (bare server_node) header packet.address) packet.bytes c.step c.reads in
     inr (record {
       event = took packet;
       is = refl;
       next = next;
-      after = subst (λ j. TakesJudged S (bare server_node) packet.address j next) (sym judges)
-          (subst (λ b. TakesMessage S (server_heard (bare server_node) header packet.address) b msg next) (sym is) (c.step, c.reads, c.handles, c.answers, refl));
+      after = subst (λ j. TakesJudged S (bare server_node) packet j next) (sym judges)
+          (subst (λ b. TakesMessage S (server_heard (bare server_node) header packet.address) b packet.bytes msg next) (sym is) (c.step, c.reads, c.handles, c.answers, refl));
       recovers = comes.1;
     })
 
@@ -239,16 +240,16 @@ on_further S first shard events more image r = record {
 }
 
 module _ (S : NodeSetting) (first : ServerNodeState) (shard : Shard) (events : List NodeEvent) (server_node : ServerNode) (messages : List Outgoing) (traffic : List LinkEvent)
-    (run : IsServerRunFrom S first events (node_of server_node messages traffic false)) (here : server_node.server.server.state.shard ≡ shard) where
+    (logged : List LogLine) (run : IsServerRunFrom S first events (node_of server_node messages traffic logged false)) (here : server_node.server.server.state.shard ≡ shard) where
   -- what is around a node that is reached
   pub around_reached : (last : List Reception) (image : List ℕ) → LeftAround S (bare server_node) last image
-      → RecoversNode S.plan S.header.tag shard (node_of server_node messages traffic false) image ⊎ RecoversNext S shard (node_of server_node messages traffic false) last image
+      → RecoversNode S.plan S.header.tag shard (node_of server_node messages traffic logged false) image ⊎ RecoversNext S shard (node_of server_node messages traffic logged false) last image
   around_reached last image (inl left) = inl (subst (λ h. Recovers S.plan S.header.tag h image server_node.server.server.state server_node.server.server.viewing) here left)
   around_reached last image (inr c) = inr (record {
     event = c.event;
     is = c.is;
-    next = continued messages (traffic ++ receive_of c.event ∷ []) c.next;
-    after = event_behind messages (traffic ++ receive_of c.event ∷ []) S server_node c.event c.next c.after;
+    next = continued messages (traffic ++ receive_of c.event ∷ []) logged c.next;
+    after = event_behind messages (traffic ++ receive_of c.event ∷ []) logged S server_node c.event c.next c.after;
     recovers = subst (λ h. Recovers S.plan S.header.tag h image c.next.state c.next.viewing) here c.recovers;
   })
 
@@ -256,13 +257,13 @@ module _ (S : NodeSetting) (first : ServerNodeState) (shard : Shard) (events : L
   pub around_on_way : (last : List Reception) (event : NodeEvent) → map receiving last ≡ receive_of event ∷ [] → (image : List ℕ) → LeftAround S (bare server_node) last image
       → RecoversOnWay S first shard (events ++ event ∷ []) image
   around_on_way last event is image left = ⊎_elim
-      (λ before. record { front = events; rest = event ∷ []; is = refl; node = node_of server_node messages traffic false; run = run; recovers = before })
+      (λ before. record { front = events; rest = event ∷ []; is = refl; node = node_of server_node messages traffic logged false; run = run; recovers = before })
       (λ next. record {
         front = events ++ event ∷ [];
         rest = [];
         is = sym (append-nil (events ++ event ∷ []));
         node = next.next;
-        run = goes_on event next.next run refl (subst (λ e. AfterTurn S (node_of server_node messages traffic false) e next.next)
+        run = goes_on event next.next run refl (subst (λ e. AfterTurn S (node_of server_node messages traffic logged false) e next.next)
             (event_is_one next.event event (map receiving last) next.is is) next.after);
         recovers = next.recovers;
       })
@@ -275,7 +276,7 @@ module _ (S : NodeSetting) (first : ServerNodeState) (shard : Shard) (events : L
     front = events;
     rest = [];
     is = sym (append-nil events);
-    node = node_of server_node messages traffic false;
+    node = node_of server_node messages traffic logged false;
     run = run;
     recovers = subst (λ h. Recovers S.plan S.header.tag h image server_node.server.server.state server_node.server.server.viewing) here left;
   }

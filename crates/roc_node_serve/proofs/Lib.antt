@@ -1,5 +1,6 @@
 mod Ending
 mod Journals
+mod Logs
 mod Opened
 mod Served
 mod Servers

@@ -1,6 +1,7 @@
 -- How serving ends.
 use Rattle.std.proofs.Common.{◌≡◌, inl, inr, ℕ, Bool, false, List, [], ◌∷◌, refl, sym, ◌∙◌, ap, subst, arith, Option, Some, None}
 use Rattle.roc_base.specs.declared.node.Shard.{Shard}
+use Rattle.roc_book.specs.Call.{BookView}
 use Rattle.roc_disk.specs.declared.disk.Disk.{Ghosts as DiskOf}
 use Rattle.roc_disk.proofs.Moments.{weaker}
 use Rattle.roc_io.specs.declared.link.Addr.{Addr}
@@ -17,13 +18,16 @@ use Rattle.roc_node.specs.NodeLine.{node_lines_text, end_lines}
 use Rattle.roc_node_serve.specs.declared.server_node.ServerNode.{ServerNode}
 use Rattle.roc_node_serve.specs.declared.ends.ServeEnd.{ServeEnd}
 use Rattle.roc_node_serve.specs.declared.ends.ServeEnd.TheVariants as end
+use Rattle.roc_node_serve.specs.declared.server_turns.RunEnd.{RunEnd}
 use Rattle.roc_node_serve.specs.declared.server_turns.RunEnd.TheVariants as run
 use Rattle.roc_node_serve.specs.Keeping.{RecoversNode}
 use Rattle.roc_node_serve.specs.ServerRun.{ServerNodeState, begun}
-use Rattle.roc_node_serve.specs.ServeEnd.{Reached, behind, filled_at, amid, DoesNothing, HasBound, HasGreeted, RunsServer, unbound, unserved, cut_off, wanted, filled, broken, untold, done}
+use Rattle.roc_node_serve.specs.ServeEnd.{Reached, behind, filled_at, amid, DoesNothing, HasBound, HasGreeted, RunsServer}
+use Rattle.roc_node_serve.specs.ServeEnd.{unbound, unlogged_node, unserved, cut_off, wanted, filled, broken, unlogged, untold, done}
 use Rattle.roc_node_serve.specs.ServeEnd.{first_text}
 use Rattle.roc_node_serve.specs.Inner.JournalTurn.{CallsDisk, LeavesJournal}
-use Rattle.roc_node_serve.specs.Inner.ServerTurn.{node_of, RunsTurns, ComesOfTurns, ComesOfServing, ClosesServe, are_over, are_wanted, are_cut_off, are_filled, are_broken}
+use Rattle.roc_node_serve.specs.Inner.LogTurn.{TookSo}
+use Rattle.roc_node_serve.specs.Inner.ServerTurn.{node_of, RunsTurns, ComesOfTurns, ComesOfServing, ClosesServe, are_over, are_wanted, are_cut_off, are_filled, are_broken, are_unlogged}
 use Rattle.roc_node_serve.proofs.Journals.{OnlyNow, kept_recovers, still_leaves}
 
 abbrev unwrap : Option Addr → Addr → Addr
@@ -63,23 +67,30 @@ module _ {D : Type 0} (disk : DiskOf D) where
 -- ---- before the first turn
 
 module _ {D : Type 0} (disk : DiskOf D) (only : OnlyNow disk) (now : D) (S : NodeSetting) (first : ServerNodeState) (shard : Shard) (own : Addr) (turns : ℕ) (counts : Bool) (start : KeptServer)
-    (call : NodeCall)
+    (call : NodeCall) (Logs : Reached → ServeEnd → Type 0)
     (is : (image : List ℕ) → Recovers S.plan S.header.tag start.server.state.shard image start.server.state start.server.viewing
     → RecoversNode S.plan S.header.tag start.server.state.shard first image) where
-  pub serves_wanting : DoesNothing call → ComesOfServing disk now now S first shard own turns counts start call end.NoMemory
-  serves_wanting nothing = record { reached = behind [] first; serves = unbound end.NoMemory (inr refl) nothing; accepts = refl; leaves = leaves_first disk only now S first start is }
+  pub serves_wanting : DoesNothing call → Logs (behind [] first) end.NoMemory → ComesOfServing disk now now S first shard own turns counts start call Logs end.NoMemory
+  serves_wanting nothing logs =
+      record { reached = behind [] first; serves = unbound end.NoMemory (inr refl) nothing; accepts = refl; leaves = leaves_first disk only now S first start is; logs = logs }
 
-  pub serves_unbound : DoesNothing call → ComesOfServing disk now now S first shard own turns counts start call end.LinkFault
-  serves_unbound nothing = record { reached = behind [] first; serves = unbound end.LinkFault (inl refl) nothing; accepts = refl; leaves = leaves_first disk only now S first start is }
+  pub serves_unlogged : DoesNothing call → Logs (behind [] first) end.BookFault → ComesOfServing disk now now S first shard own turns counts start call Logs end.BookFault
+  serves_unlogged nothing logs =
+      record { reached = behind [] first; serves = unlogged_node nothing; accepts = refl; leaves = leaves_first disk only now S first start is; logs = logs }
+
+  pub serves_unbound : DoesNothing call → Logs (behind [] first) end.LinkFault → ComesOfServing disk now now S first shard own turns counts start call Logs end.LinkFault
+  serves_unbound nothing logs =
+      record { reached = behind [] first; serves = unbound end.LinkFault (inl refl) nothing; accepts = refl; leaves = leaves_first disk only now S first start is; logs = logs }
 
   pub serves_unserved : (at : Option Addr) (found : Addr) (piece : List ℕ) → at ≡ Some own → at ≡ Some found → Adds call.link.bound_old call.link.bound_new (found ∷ [])
       → Moves call.link.old call.link.new [] → piece ≡ first_text shard
-      → AddsFront call.out.old call.out.new piece → ComesOfServing disk now now S first shard own turns counts start call end.SinkFault
-  serves_unserved at found piece of has bound moves text told = record {
+      → AddsFront call.out.old call.out.new piece → Logs (behind [] first) end.SinkFault → ComesOfServing disk now now S first shard own turns counts start call Logs end.SinkFault
+  serves_unserved at found piece of has bound moves text told logs = record {
     reached = behind [] first;
     serves = unserved (own_bound at own found _ _ of has bound) moves (subst (AddsFront call.out.old call.out.new) text told);
     accepts = refl;
     leaves = leaves_first disk only now S first start is;
+    logs = logs;
   }
 
 -- ---- behind the first line
@@ -88,7 +99,8 @@ module _ {D : Type 0} (disk : DiskOf D) (old new : D) (S : NodeSetting) (first :
     (call : NodeCall)
     (at : Option Addr) (is : at ≡ Some own) (has : at ≡ Some found) (mid : LinkView) (greeted : Option (List ℕ)) (piece : List ℕ)
     (bound : Adds call.link.bound_old call.link.bound_new (found ∷ []))
-    (binds : Moves call.link.old mid []) (text : piece ≡ first_text shard) (told : Adds call.out.old greeted piece) (counted : ServerNode) where
+    (binds : Moves call.link.old mid []) (text : piece ≡ first_text shard) (told : Adds call.out.old greeted piece) (counted : ServerNode)
+    (kept : Bool) (p q : BookView) where
   has_bound : HasBound own call
   has_bound = own_bound at own found _ _ is has bound
 
@@ -105,70 +117,105 @@ module _ {D : Type 0} (disk : DiskOf D) (old new : D) (S : NodeSetting) (first :
   abbrev Leaves : Reached → Type 0
   Leaves reached = LeavesJournal disk old new S first start.server.state.shard start reached
 
+  abbrev Took : Reached → ServeEnd → Type 0
+  Took = TookSo kept p q S first
+
   abbrev Ends : ServeEnd → Type 0
-  Ends e = ComesOfServing disk old new S first shard own turns counts start call e
+  Ends e = ComesOfServing disk old new S first shard own turns counts start call Took e
 
-  wants : call.out.new ≡ greeted → (reached : Reached) → RunsTurns S first turns counted mid call.link.new run.NoMemory reached → Leaves reached → Ends end.NoMemory
-  wants same _ (are_wanted events node last one runs) leaves =
-      record { reached = amid events node last; serves = wanted events node last has_bound (runs_behind last events node runs) one (has_greeted same); accepts = refl; leaves = leaves }
+  wants : call.out.new ≡ greeted → (reached : Reached) → RunsTurns S first turns counted mid call.link.new run.NoMemory reached → Leaves reached → Took reached end.NoMemory → Ends end.NoMemory
+  wants same _ (are_wanted events node last one runs) leaves logs =
+      record { reached = amid events node last; serves = wanted events node last has_bound (runs_behind last events node runs) one (has_greeted same); accepts = refl; leaves = leaves; logs = logs }
 
-  cuts : call.out.new ≡ greeted → (reached : Reached) → RunsTurns S first turns counted mid call.link.new run.LinkFault reached → Leaves reached → Ends end.LinkFault
-  cuts same _ (are_cut_off events node goes few runs) leaves =
-      record { reached = behind events node; serves = cut_off events node has_bound (runs_behind _ events node runs) goes few (has_greeted same); accepts = refl; leaves = leaves }
+  cuts : call.out.new ≡ greeted → (reached : Reached) → RunsTurns S first turns counted mid call.link.new run.LinkFault reached → Leaves reached → Took reached end.LinkFault → Ends end.LinkFault
+  cuts same _ (are_cut_off events node goes few runs) leaves logs =
+      record { reached = behind events node; serves = cut_off events node has_bound (runs_behind _ events node runs) goes few (has_greeted same); accepts = refl; leaves = leaves; logs = logs }
 
-  fills : call.out.new ≡ greeted → (reached : Reached) → RunsTurns S first turns counted mid call.link.new run.Full reached → Leaves reached → Ends end.Full
-  fills same _ (are_filled events node packet header msg brings records goes runs) leaves = record {
+  fills : call.out.new ≡ greeted → (reached : Reached) → RunsTurns S first turns counted mid call.link.new run.Full reached → Leaves reached → Took reached end.Full → Ends end.Full
+  fills same _ (are_filled events node packet header msg brings records goes runs) leaves logs = record {
     reached = filled_at events node header msg;
     serves = filled events node packet header msg (record { brings = brings; bound = has_bound; runs = runs_behind _ events node runs; goes = goes; greeted = has_greeted same }) records;
     accepts = refl;
     leaves = leaves;
+    logs = logs;
   }
 
-  breaks : call.out.new ≡ greeted → (reached : Reached) → RunsTurns S first turns counted mid call.link.new run.Disk reached → Leaves reached → Ends end.Disk
-  breaks same _ (are_broken events node packet header msg brings goes runs) leaves = record {
+  breaks : call.out.new ≡ greeted → (reached : Reached) → RunsTurns S first turns counted mid call.link.new run.Disk reached → Leaves reached → Took reached end.Disk → Ends end.Disk
+  breaks same _ (are_broken events node packet header msg brings goes runs) leaves logs = record {
     reached = amid events node _;
     serves = broken events node packet header msg (record { brings = brings; bound = has_bound; runs = runs_behind _ events node runs; goes = goes; greeted = has_greeted same });
     accepts = refl;
     leaves = leaves;
+    logs = logs;
   }
 
   closes : (stopped : Bool) (e : ServeEnd) → ClosesServe e (node_lines_text (end_lines shard stopped counts counted.counts)) greeted call.out.new → (reached : Reached)
-      → RunsTurns S first turns counted mid call.link.new (run.Over stopped) reached → Leaves reached → Ends e
-  closes _ end.Done c _ (are_over stopped messages traffic events over runs) leaves = record {
-    reached = behind events (node_of counted messages traffic stopped);
-    serves = done events (node_of counted messages traffic stopped) has_bound (runs_behind [] events _ runs) over (Adds-trans call.out.old greeted call.out.new _ _ first_told c);
+      → RunsTurns S first turns counted mid call.link.new (run.Over stopped) reached → Leaves reached → Took reached end.Done → Ends e
+  closes _ end.Done c _ (are_over stopped messages traffic logged events over runs) leaves logs = record {
+    reached = behind events (node_of counted messages traffic logged stopped);
+    serves = done events (node_of counted messages traffic logged stopped) has_bound (runs_behind [] events _ runs) over (Adds-trans call.out.old greeted call.out.new _ _ first_told c);
     accepts = refl;
     leaves = leaves;
+    logs = logs;
   }
-  closes _ end.SinkFault c _ (are_over stopped messages traffic events over runs) leaves = record {
-    reached = behind events (node_of counted messages traffic stopped);
-    serves = untold events (node_of counted messages traffic stopped) has_bound (runs_behind [] events _ runs) over (AddsThenFront-behind call.out.old greeted call.out.new _ _ first_told c);
+  closes _ end.SinkFault c _ (are_over stopped messages traffic logged events over runs) leaves logs = record {
+    reached = behind events (node_of counted messages traffic logged stopped);
+    serves = untold events (node_of counted messages traffic logged stopped) has_bound (runs_behind [] events _ runs) over (AddsThenFront-behind call.out.old greeted call.out.new _ _ first_told c);
     accepts = refl;
     leaves = leaves;
+    logs = logs;
   }
-  closes _ end.NoMemory c _ (are_over stopped messages traffic events over runs) leaves = record {
-    reached = amid events (node_of counted messages traffic stopped) [];
-    serves = wanted events (node_of counted messages traffic stopped) [] has_bound (runs_behind [] events _ runs) (omega arith) (has_greeted c);
+  closes _ end.NoMemory c _ (are_over stopped messages traffic logged events over runs) leaves logs = record {
+    reached = amid events (node_of counted messages traffic logged stopped) [];
+    serves = wanted events (node_of counted messages traffic logged stopped) [] has_bound (runs_behind [] events _ runs) (omega arith) (has_greeted c);
     accepts = refl;
     leaves = leaves_last disk old new S first start.server.state.shard start events _ leaves;
+    logs = logs;
   }
-  closes stopped end.LinkFault c reached r leaves = absurd c
-  closes stopped (end.Journal at) c reached r leaves = absurd c
-  closes stopped end.Full c reached r leaves = absurd c
-  closes stopped end.Disk c reached r leaves = absurd c
+  closes stopped end.LinkFault c reached r leaves logs = absurd c
+  closes stopped (end.Journal at) c reached r leaves logs = absurd c
+  closes stopped end.Full c reached r leaves logs = absurd c
+  closes stopped end.Disk c reached r leaves logs = absurd c
+  closes stopped end.BookFault c reached r leaves logs = absurd c
 
-  pub serves_wanted : call.out.new ≡ greeted → ComesOfTurns disk old new S first turns start counted mid call.link.new run.NoMemory → Ends end.NoMemory
-  serves_wanted same r = wants same r.reached r.runs r.leaves
+  unlogs : call.out.new ≡ greeted → (reached : Reached) → RunsTurns S first turns counted mid call.link.new run.BookFault reached → Leaves reached → Took reached end.BookFault → Ends end.BookFault
+  unlogs same _ (are_unlogged events node last event is goes runs) leaves logs = record {
+    reached = amid events node last;
+    serves = unlogged events node last event has_bound (runs_behind last events node runs) is goes (has_greeted same);
+    accepts = refl;
+    leaves = leaves;
+    logs = logs;
+  }
 
-  pub serves_cut : call.out.new ≡ greeted → ComesOfTurns disk old new S first turns start counted mid call.link.new run.LinkFault → Ends end.LinkFault
-  serves_cut same r = cuts same r.reached r.runs r.leaves
+  -- what the turns leave is what the call does
+  abbrev Comes : RunEnd → Type 0
+  Comes e = ComesOfTurns disk old new kept S first turns start counted mid call.link.new p q e
 
-  pub serves_filled : call.out.new ≡ greeted → ComesOfTurns disk old new S first turns start counted mid call.link.new run.Full → Ends end.Full
-  serves_filled same r = fills same r.reached r.runs r.leaves
+  pub serves_wanted : call.out.new ≡ greeted → Comes run.NoMemory → Ends end.NoMemory
+  serves_wanted same r = wants same r.reached r.runs r.leaves r.took
 
-  pub serves_broken : call.out.new ≡ greeted → ComesOfTurns disk old new S first turns start counted mid call.link.new run.Disk → Ends end.Disk
-  serves_broken same r = breaks same r.reached r.runs r.leaves
+  pub serves_cut : call.out.new ≡ greeted → Comes run.LinkFault → Ends end.LinkFault
+  serves_cut same r = cuts same r.reached r.runs r.leaves r.took
 
-  pub serves_over : (stopped : Bool) (e : ServeEnd) → ComesOfTurns disk old new S first turns start counted mid call.link.new (run.Over stopped)
+  pub serves_filled : call.out.new ≡ greeted → Comes run.Full → Ends end.Full
+  serves_filled same r = fills same r.reached r.runs r.leaves r.took
+
+  pub serves_broken : call.out.new ≡ greeted → Comes run.Disk → Ends end.Disk
+  serves_broken same r = breaks same r.reached r.runs r.leaves r.took
+
+  pub serves_over : (stopped : Bool) (e : ServeEnd) → Comes (run.Over stopped)
       → ClosesServe e (node_lines_text (end_lines shard stopped counts counted.counts)) greeted call.out.new → Ends e
-  serves_over stopped e r c = closes stopped e c r.reached r.runs r.leaves
+  serves_over stopped e r c = closes stopped e c r.reached r.runs r.leaves r.took
+
+  pub serves_cut_short : call.out.new ≡ greeted → Comes run.BookFault → Ends end.BookFault
+  serves_cut_short same r = unlogs same r.reached r.runs r.leaves r.took
+
+-- ---- with what a book took before
+
+-- what the book took so it took so in other words
+pub served_logged : {D : Type 0} (disk : DiskOf D) (old new : D) (S : NodeSetting) (first : ServerNodeState) (shard : Shard) (own : Addr) (turns : ℕ) (counts : Bool) (start : KeptServer)
+    (call : NodeCall) (e : ServeEnd) (P Q : Reached → ServeEnd → Type 0) → ((reached : Reached) (e : ServeEnd) → P reached e → Q reached e)
+    → ComesOfServing disk old new S first shard own turns counts start call P e
+    → ComesOfServing disk old new S first shard own turns counts start call Q e
+served_logged disk old new S first shard own turns counts start call e P Q also c =
+    record { reached = c.reached; serves = c.serves; accepts = c.accepts; leaves = c.leaves; logs = also c.reached e c.logs }

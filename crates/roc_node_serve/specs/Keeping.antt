@@ -1,6 +1,7 @@
 -- What serving a shard leaves of its journal: docs/PROTOCOL.md, "Restarts"
 use Rattle.std.specs.Prelude.{◌≡◌, ◌⊎◌, ℕ, ◌+◌, ◌<◌, Bool, true, false, List, [], ◌∷◌, ◌++◌, length, map, Option, Some, None}
 use Rattle.roc_base.specs.declared.node.Shard.{Shard}
+use Rattle.roc_book.specs.Call.{BookCall}
 use Rattle.roc_disk.specs.declared.disk.Disk.{Ghosts as DiskOf}
 use Rattle.roc_disk.specs.Over.{LeavesOnly}
 use Rattle.roc_io.specs.declared.link.Addr.{Addr}
@@ -16,7 +17,8 @@ use Rattle.roc_step.specs.State.{ServerState, Viewing}
 use Rattle.roc_wire.specs.declared.header.Header.{Header}
 use Rattle.roc_node.specs.NodeEvent.{NodeEvent, NodeSetting, receive_of}
 use Rattle.roc_node_serve.specs.declared.ends.ServeEnd.{ServeEnd}
-use Rattle.roc_node_serve.specs.declared.ends.ServeEnd.TheVariants.{Done, LinkFault, SinkFault, NoMemory, Journal, Full, Disk}
+use Rattle.roc_node_serve.specs.declared.ends.ServeEnd.TheVariants.{Done, LinkFault, SinkFault, NoMemory, Journal, Full, Disk, BookFault}
+use Rattle.roc_node_serve.specs.Logging.{KeepsLog}
 use Rattle.roc_node_serve.specs.ServerRun.{ServerNodeState, AfterTurn, IsServerRunFrom, first_server_node_state, opened_node}
 use Rattle.roc_node_serve.specs.ServeEnd.{Reached, unbegun, behind, filled_at, amid, Serves, is_end_of_journal}
 
@@ -81,6 +83,7 @@ IsRefusedRightly plan tag shard bytes SinkFault = Unit {0}
 IsRefusedRightly plan tag shard bytes NoMemory = Unit {0}
 IsRefusedRightly plan tag shard bytes Full = Unit {0}
 IsRefusedRightly plan tag shard bytes Disk = Unit {0}
+IsRefusedRightly plan tag shard bytes BookFault = Unit {0}
 
 -- The server that is opened keeps what some records give, kept reads aside: where the disk tells it, those of the file.
 pub record IsOpenedFrom {D : Type 0} (disk : DiskOf D) (old new : D) (plan : Plan) (tag name : List ℕ) (shard : Shard) (s : ServerState) (v : Viewing) : Type 0 where
@@ -89,8 +92,8 @@ pub record IsOpenedFrom {D : Type 0} (disk : DiskOf D) (old new : D) (plan : Pla
   pub from : disk.tells new ≡ true → IsFrom plan tag shard (disk.content old name) s v
 
 -- A shard was served with the journal of this name.
-pub record ServesKept {D : Type 0} (disk : DiskOf D) (old new : D) (name : List ℕ) (S : NodeSetting) (shard : Shard) (own : Addr) (turns : ℕ) (counts : Bool) (call : NodeCall)
-    (end : ServeEnd) : Type 0 where
+pub record ServesKept {D : Type 0} (disk : DiskOf D) (old new : D) (name : List ℕ) (log : Option (List ℕ)) (S : NodeSetting) (shard : Shard) (own : Addr) (turns : ℕ) (counts : Bool)
+    (call : NodeCall) (book : BookCall) (end : ServeEnd) : Type 0 where
   -- what the server keeps that was opened
   pub state : ServerState
   pub viewing : Viewing
@@ -101,15 +104,17 @@ pub record ServesKept {D : Type 0} (disk : DiskOf D) (old new : D) (name : List 
   pub leaves : disk.tells new ≡ true → (image : List ℕ) → disk.may_leave new name image → IsLeftBehind S shard reached image
   pub any_moment : disk.tells new ≡ true → LeavesOnly disk old new name
       (λ image. LeftByOpening S.header.tag (disk.content old name) (disk.may_leave old name) image ⊎ IsLeftOnWay S (opened_node S state viewing) shard reached image)
+  pub logs : KeepsLog log book S shard reached end
 
 -- A shard was served without a journal.
-pub record ServesUnkept (S : NodeSetting) (shard : Shard) (own : Addr) (turns : ℕ) (counts : Bool) (call : NodeCall) (end : ServeEnd) : Type 0 where
+pub record ServesUnkept (log : Option (List ℕ)) (S : NodeSetting) (shard : Shard) (own : Addr) (turns : ℕ) (counts : Bool) (call : NodeCall) (book : BookCall) (end : ServeEnd) : Type 0 where
   pub reached : Reached
   pub serves : Serves S (first_server_node_state S.plan shard) shard own turns counts call reached end
   pub of_none : is_end_of_journal end ≡ false
+  pub logs : KeepsLog log book S shard reached end
 
--- A shard was served, with the journal of a name or without one.
-abbrev pub ServesWith : {D : Type 0} → DiskOf D → (old new : D) → (journal : Option (List ℕ)) → NodeSetting → Shard → (own : Addr) → (turns : ℕ)
-    → (counts : Bool) → NodeCall → ServeEnd → Type 0
-ServesWith disk old new None S shard own turns counts call end = ServesUnkept S shard own turns counts call end
-ServesWith disk old new (Some name) S shard own turns counts call end = ServesKept disk old new name S shard own turns counts call end
+-- A shard was served, with the journal of a name or without one, and a log under a name or none.
+abbrev pub ServesWith : {D : Type 0} → DiskOf D → (old new : D) → (journal log : Option (List ℕ)) → NodeSetting → Shard → (own : Addr) → (turns : ℕ)
+    → (counts : Bool) → NodeCall → BookCall → ServeEnd → Type 0
+ServesWith disk old new None log S shard own turns counts call book end = ServesUnkept log S shard own turns counts call book end
+ServesWith disk old new (Some name) log S shard own turns counts call book end = ServesKept disk old new name log S shard own turns counts call book end

@@ -1,4 +1,5 @@
 pub mod ServerRun
 pub mod ServeEnd
+pub mod Logging
 pub mod Keeping
 pub mod Inner

@@ -16,9 +16,9 @@ use Rattle.roc_node.specs.Judgement.{judged}
 use Rattle.roc_node.specs.declared.judging.Judged.TheVariants.{Delivery}
 use Rattle.roc_node.specs.Moves.{Moves}
 use Rattle.roc_node_serve.specs.declared.ends.ServeEnd.{ServeEnd}
-use Rattle.roc_node_serve.specs.declared.ends.ServeEnd.TheVariants.{Done, LinkFault, SinkFault, NoMemory, Journal, Full, Disk}
+use Rattle.roc_node_serve.specs.declared.ends.ServeEnd.TheVariants.{Done, LinkFault, SinkFault, NoMemory, Journal, Full, Disk, BookFault}
 use Rattle.roc_node.specs.declared.lines.NodeLine.TheVariants.{Serving}
-use Rattle.roc_node.specs.NodeEvent.{NodeEvent, NodeSetting}
+use Rattle.roc_node.specs.NodeEvent.{NodeEvent, NodeSetting, receive_of}
 use Rattle.roc_node.specs.NodeLine.{node_lines_text, end_lines}
 use Rattle.roc_node_serve.specs.ServerRun.{ServerNodeState, IsServerRunFrom, is_stop}
 
@@ -30,6 +30,7 @@ serve_link_failed NoMemory = false
 serve_link_failed (Journal at) = false
 serve_link_failed Full = false
 serve_link_failed Disk = false
+serve_link_failed BookFault = false
 
 abbrev pub serve_sink_failed : ServeEnd → Bool
 serve_sink_failed SinkFault = true
@@ -39,6 +40,7 @@ serve_sink_failed NoMemory = false
 serve_sink_failed (Journal at) = false
 serve_sink_failed Full = false
 serve_sink_failed Disk = false
+serve_sink_failed BookFault = false
 
 abbrev pub serve_disk_failed : ServeEnd → Bool
 serve_disk_failed Disk = true
@@ -48,6 +50,17 @@ serve_disk_failed SinkFault = false
 serve_disk_failed NoMemory = false
 serve_disk_failed (Journal at) = false
 serve_disk_failed Full = false
+serve_disk_failed BookFault = false
+
+abbrev pub serve_book_failed : ServeEnd → Bool
+serve_book_failed BookFault = true
+serve_book_failed Done = false
+serve_book_failed LinkFault = false
+serve_book_failed SinkFault = false
+serve_book_failed NoMemory = false
+serve_book_failed (Journal at) = false
+serve_book_failed Full = false
+serve_book_failed Disk = false
 
 -- a journal was refused, before the link was bound
 abbrev pub serve_refused : ServeEnd → Bool
@@ -58,6 +71,7 @@ serve_refused SinkFault = false
 serve_refused NoMemory = false
 serve_refused Full = false
 serve_refused Disk = false
+serve_refused BookFault = false
 
 -- only a journal brings such an end
 abbrev pub is_end_of_journal : ServeEnd → Bool
@@ -68,6 +82,7 @@ is_end_of_journal Done = false
 is_end_of_journal LinkFault = false
 is_end_of_journal SinkFault = false
 is_end_of_journal NoMemory = false
+is_end_of_journal BookFault = false
 
 -- all turns were taken, or a stop was
 abbrev pub AreTurnsOver : (turns : ℕ) → List NodeEvent → ServerNodeState → Type 0
@@ -140,6 +155,8 @@ pub data Serves (S : NodeSetting) (first : ServerNodeState) (shard : Shard) (own
   unbegan : DoesNothing call → Serves S first shard own turns counts call unbegun NoMemory
   -- the link was not bound, or memory was wanting before
   unbound : (end : ServeEnd) → (end ≡ LinkFault) ⊎ (end ≡ NoMemory) → DoesNothing call → Serves S first shard own turns counts call (behind [] first) end
+  -- the book failed before that, at its open or at what the node logs before any turn
+  unlogged_node : DoesNothing call → Serves S first shard own turns counts call (behind [] first) BookFault
   -- the sink failed at the first line
   unserved : HasBound own call → Moves call.link.old call.link.new [] → AddsFront call.out.old call.out.new (first_text shard)
       → Serves S first shard own turns counts call (behind [] first) SinkFault
@@ -155,6 +172,10 @@ pub data Serves (S : NodeSetting) (first : ServerNodeState) (shard : Shard) (own
   -- the disk failed at the message of the last turn
   broken : (events : List NodeEvent) (node : ServerNodeState) (packet : Packet) (header : Header) (msg : Msg) → StopsAt S first shard own turns call events node packet header msg
       → Serves S first shard own turns counts call (amid events node (came packet ∷ [])) Disk
+  -- the book failed at the lines of the event that the receive of the last turn gave: nothing was sent for it, and nothing written
+  unlogged : (events : List NodeEvent) (node : ServerNodeState) (last : List Reception) (event : NodeEvent) → HasBound own call
+      → RunsServer S first turns last events node call.link.old call.link.new → map receiving last ≡ receive_of event ∷ [] → node.stopped ≡ false → HasGreeted shard call
+      → Serves S first shard own turns counts call (amid events node last) BookFault
   -- all turns were taken or a stop was, and the sink failed at the last lines
   untold : (events : List NodeEvent) (node : ServerNodeState) → HasBound own call → RunsServer S first turns [] events node call.link.old call.link.new → AreTurnsOver turns events node
       → AddsThenFront call.out.old call.out.new (first_text shard) (end_text shard counts node) → Serves S first shard own turns counts call (behind events node) SinkFault

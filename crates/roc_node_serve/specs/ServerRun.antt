@@ -1,10 +1,14 @@
 -- The run of a server's node: what its core does with what comes to it, what the node sends, and what it counts:
 -- docs/PROTOCOL.md, "Running nodes"
-use Rattle.std.specs.Prelude.{◌≡◌, Bool, true, false, List, [], ◌∷◌, ◌++◌, map}
+use Rattle.std.specs.Prelude.{◌≡◌, ℕ, Bool, true, false, List, [], ◌∷◌, ◌++◌, map}
 use Rattle.roc_base.specs.declared.node.Shard.{Shard}
 use Rattle.roc_io.specs.declared.link.Addr.{Addr}
 use Rattle.roc_io.specs.Cause.{one_more}
 use Rattle.roc_io.specs.Link.{LinkEvent, sending}
+use Rattle.roc_io.specs.Packet.{Packet}
+use Rattle.roc_log.specs.declared.line.LogLine.{LogLine}
+use Rattle.roc_log.specs.declared.line.LogLine.TheVariants.{In, Tick}
+use Rattle.roc_log.specs.Sent.{outs_logged}
 use Rattle.roc_msg.specs.declared.msg.Msg.{Msg}
 use Rattle.roc_msg.specs.declared.msg.Msg.TheVariants.{Stop}
 use Rattle.roc_msg.specs.declared.outbox.Outgoing.{Outgoing}
@@ -36,6 +40,8 @@ pub record ServerNodeState : Type 0 where
   -- what it asked of its link, in order: the receive of each turn, and behind it, before the next one, the datagrams that went out for the
   -- messages of that turn
   pub traffic : List LinkEvent
+  -- the lines of its log, kept or not: each event that its core or a stop took, and behind it what the core sent
+  pub logged : List LogLine
   -- where it last heard each coordinator
   pub heard : Hearsay
   pub counts : Counts
@@ -44,11 +50,24 @@ pub record ServerNodeState : Type 0 where
 
 -- before any turn
 abbrev pub first_server_node_state : Plan → Shard → ServerNodeState
-first_server_node_state plan shard = record { state = first_server plan shard; viewing = first_viewing; messages = []; traffic = []; heard = none_heard; counts = no_counts; stopped = false }
+first_server_node_state plan shard = record {
+  state = first_server plan shard;
+  viewing = first_viewing;
+  messages = [];
+  traffic = [];
+  logged = [];
+  heard = none_heard;
+  counts = no_counts;
+  stopped = false;
+}
 
--- its core sends messages
-abbrev pub server_sends : NodeSetting → ServerNodeState → List Outgoing → ServerNodeState
-server_sends S node outs = record node { messages = node.messages ++ outs; traffic = node.traffic ++ map sending (packets_for S.header S.cluster node.heard outs) }
+-- its core sends messages for an event that is logged so
+abbrev pub server_sends : NodeSetting → ServerNodeState → LogLine → List Outgoing → ServerNodeState
+server_sends S node line outs = record node {
+  messages = node.messages ++ outs;
+  traffic = node.traffic ++ map sending (packets_for S.header S.cluster node.heard outs);
+  logged = node.logged ++ line ∷ outs_logged S.header outs;
+}
 
 -- a delivery more was taken, and this is what the core answered to it
 abbrev pub with_answer : Counts → Handled → Counts
@@ -56,16 +75,17 @@ with_answer c Done = with_taken c
 with_answer c Gone = with_taken c
 with_answer c (Ignored reason) = record c { taken = one_more c.taken; ignores = one_ignore_more c.ignores reason }
 
--- its core takes a step for a delivery, and this comes of it for reads
-abbrev pub server_took : NodeSetting → ServerNodeState → ServerStep → ReadStep → ServerNodeState
-server_took S node r q = record (server_sends S node (r.sends ++ q.sends)) { state = r.state; viewing = q.viewing; counts = with_answer node.counts r.answer }
+-- its core takes a step for a delivery in these bytes, and this comes of it for reads
+abbrev pub server_took : NodeSetting → ServerNodeState → (bytes : List ℕ) → ServerStep → ReadStep → ServerNodeState
+server_took S node bytes r q = record (server_sends S node (In bytes) (r.sends ++ q.sends)) { state = r.state; viewing = q.viewing; counts = with_answer node.counts r.answer }
 
 -- one receive gave an event
 abbrev pub server_received : ServerNodeState → NodeEvent → ServerNodeState
 server_received node event = record node { traffic = node.traffic ++ receive_of event ∷ [] }
 
-abbrev pub server_stopped : ServerNodeState → ServerNodeState
-server_stopped node = record node { counts = with_taken node.counts; stopped = true }
+-- these bytes stopped it
+abbrev pub server_stopped : ServerNodeState → (bytes : List ℕ) → ServerNodeState
+server_stopped node bytes = record node { counts = with_taken node.counts; logged = node.logged ++ In bytes ∷ []; stopped = true }
 
 abbrev pub server_skipped : ServerNodeState → Skip → ServerNodeState
 server_skipped node skip = record node { counts = with_skip node.counts skip }
@@ -78,20 +98,21 @@ abbrev pub is_stop : Msg → Bool
 is_stop Stop = true
 is_stop msg = false
 
--- a delivery: a stop is for the node, and any other message for its core, whose step it is
-abbrev pub TakesMessage : NodeSetting → ServerNodeState → (stops : Bool) → Msg → ServerNodeState → Type 0
-TakesMessage S node true msg next = next ≡ server_stopped node
-TakesMessage S node false msg next = (r : ServerStep) × (q : ReadStep) × Handles S.plan node.state msg r × AnswersReads S.plan node.viewing msg r q × (next ≡ server_took S node r q)
+-- a delivery in these bytes: a stop is for the node, and any other message for its core, whose step it is
+abbrev pub TakesMessage : NodeSetting → ServerNodeState → (stops : Bool) → (bytes : List ℕ) → Msg → ServerNodeState → Type 0
+TakesMessage S node true bytes msg next = next ≡ server_stopped node bytes
+TakesMessage S node false bytes msg next =
+    (r : ServerStep) × (q : ReadStep) × Handles S.plan node.state msg r × AnswersReads S.plan node.viewing msg r q × (next ≡ server_took S node bytes r q)
 
--- a datagram from an address; one that is skipped is counted, and changes nothing else
-abbrev pub TakesJudged : NodeSetting → ServerNodeState → Addr → Judged → ServerNodeState → Type 0
-TakesJudged S node from (Delivery header msg) next = TakesMessage S (server_heard node header from) (is_stop msg) msg next
-TakesJudged S node from (Skipped skip) next = next ≡ server_skipped node skip
+-- a datagram; one that is skipped is counted, and changes nothing else
+abbrev pub TakesJudged : NodeSetting → ServerNodeState → Packet → Judged → ServerNodeState → Type 0
+TakesJudged S node packet (Delivery header msg) next = TakesMessage S (server_heard node header packet.address) (is_stop msg) packet.bytes msg next
+TakesJudged S node packet (Skipped skip) next = next ≡ server_skipped node skip
 
 -- what comes of an event; silence is a tick
 abbrev pub AfterEvent : NodeSetting → ServerNodeState → NodeEvent → ServerNodeState → Type 0
-AfterEvent S node (took packet) next = TakesJudged S node packet.address (judged S.header.tag packet.bytes) next
-AfterEvent S node silent next = next ≡ server_sends S node (tick_sends node.state)
+AfterEvent S node (took packet) next = TakesJudged S node packet (judged S.header.tag packet.bytes) next
+AfterEvent S node silent next = next ≡ server_sends S node Tick (tick_sends node.state)
 
 -- a turn: one receive gives the event, and all that comes of it stands behind that receive
 abbrev pub AfterTurn : NodeSetting → ServerNodeState → NodeEvent → ServerNodeState → Type 0
@@ -110,4 +131,4 @@ IsServerRun S shard events node = IsServerRunFrom S (first_server_node_state S.p
 -- before any turn, where a journal was opened and the server keeps this: nobody was heard, and it has sent one tick, of which what is for
 -- shards goes out
 abbrev pub opened_node : NodeSetting → ServerState → Viewing → ServerNodeState
-opened_node S s v = server_sends S (record (first_server_node_state S.plan s.shard) { state = s; viewing = v }) (tick_sends s)
+opened_node S s v = server_sends S (record (first_server_node_state S.plan s.shard) { state = s; viewing = v }) Tick (tick_sends s)

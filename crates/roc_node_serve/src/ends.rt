@@ -17,4 +17,6 @@ pub enum ServeEnd {
     Full,
     /// The disk failed.
     Disk,
+    /// The book failed.
+    BookFault,
 }

@@ -1,30 +1,30 @@
 //! Serving a shard.
-ghost use Rattle.std.specs.Prelude.{◌≡◌, true, false, ◌<◌, List, length, map, Some, None, IfOk, slice_get, option_map};
+ghost use Rattle.std.specs.Prelude.{◌≡◌, true, false, ◌<◌, length, Some, None, slice_get, option_map, is_some};
 ghost use Rattle.roc_base.specs.declared.node.Node.TheVariants as node;
+ghost use Rattle.roc_book.specs.Call.{book_call};
 ghost use Rattle.roc_io.specs.declared.link.Addr.{Addr};
 ghost use Rattle.roc_io.specs.Call.{link_call, sink_call};
 ghost use Rattle.roc_io.specs.Cause.{HasCause};
-ghost use Rattle.roc_io.specs.Link.{sending};
-ghost use Rattle.roc_msg.specs.declared.outbox.Outgoing.{Outgoing};
 ghost use Rattle.roc_wire.specs.Fits.{FitsHeader};
 ghost use Rattle.roc_node.specs.NodeEvent.{node_setting};
-ghost use Rattle.roc_node.specs.NodeLine.{node_lines_text, end_lines};
 ghost use Rattle.roc_node.specs.Setting.{setting_of};
 ghost use Rattle.roc_node_serve.specs.Keeping.{ServesKept, ServesUnkept, ServesWith};
+ghost use Rattle.roc_node_serve.specs.Logging.{KeepsLog};
 ghost use Rattle.roc_node_serve.specs.ServerRun.{opened_node};
-ghost use Rattle.roc_node_serve.specs.ServeEnd.{first_text, is_end_of_journal, serve_disk_failed, serve_link_failed, serve_refused, serve_sink_failed};
+ghost use Rattle.roc_node_serve.specs.ServeEnd.{is_end_of_journal, serve_book_failed, serve_disk_failed, serve_link_failed, serve_refused, serve_sink_failed};
 ghost use Rattle.roc_node_serve.specs.Inner.JournalTurn.{CallsDisk, IsOpen};
-ghost use Rattle.roc_node_serve.specs.Inner.ServerTurn.{ClosesServe, ComesOfServing, IsFirstNode, end_of, node_of};
+ghost use Rattle.roc_node_serve.specs.Inner.ServerTurn.{ComesOfServing, IsFirstNode, end_of};
 
 use crate::ServeEnd;
 use crate::server_node::{ServerNode, take_silence};
-use crate::server_turns::{RunEnd, run_turns};
+use crate::starting::serve_from;
 use roc_base::{NoMemory, Node, Shard};
+use roc_book::Book;
 use roc_cluster::Cluster;
 use roc_disk::Disk;
-use roc_io::{Bound, Datagram, Link, Sink, Written};
+use roc_io::{Link, Sink};
 use roc_kept::{KeptServer, OpenFault};
-use roc_node::{Counts, Heard, NodeLine, Setting, append_end, append_line};
+use roc_node::{Counts, Heard, Setting};
 use roc_plan::Plan;
 use roc_server::Server;
 use roc_wire::Header;
@@ -36,7 +36,10 @@ use std::alloc::Global;
 ///
 /// A turn is one receive. The datagrams of a turn are sent behind it, and before the next one. A server that was opened from a journal sends one tick
 /// before its first turn. What leaves a record is in the journal before anything is sent for it. Without a journal the disk is not touched.
-pub fn serve<L: Link, S: Sink, D: Disk>(
+///
+/// Where a log is named the book is opened under that name, behind the journal and before the bind, and takes the node's line. Then it takes the lines
+/// of each event in one piece, before anything is sent for the event: where memory is wanting it ends with an event. Without a log it is not touched.
+pub fn serve<L: Link, S: Sink, D: Disk, B: Book>(
     alloc: Global,
     plan: &Plan,
     tag: [u8; 8],
@@ -48,6 +51,8 @@ pub fn serve<L: Link, S: Sink, D: Disk>(
     out: &mut S,
     journal: Option<&str>,
     disk: &mut D,
+    log: Option<&str>,
+    book: &mut B,
 ) -> ServeEnd
     requires cluster { length cluster.now ≡ plan.now.program.shards }
     requires shard { shard.0 < plan.now.program.shards }
@@ -55,29 +60,35 @@ pub fn serve<L: Link, S: Sink, D: Disk>(
     ensures link_cause { HasCause (serve_link_failed result) (L.faults link.old) (L.faults link.new) }
     ensures link_stays { serve_refused result ≡ true → link.new ≡ link.old }
     ensures sink_cause { HasCause (serve_sink_failed result) (S.faults out.old) (S.faults out.new) }
+    ensures book_cause { HasCause (serve_book_failed result) (B.faults book.old) (B.faults book.new) }
     ensures disk_cause { HasCause (serve_disk_failed result) (D.faults disk.old) (D.faults disk.new) }
     ensures disk_told { D.tells disk.new ≡ true → D.tells disk.old ≡ true }
     ensures disk_stays { journal.entry ≡ None → disk.new ≡ disk.old }
-    // What the node's run gives over the arrivals is what was sent and written, and what the journal keeps.
+    // What the node's run gives over the arrivals is what was sent and written, and what the journal and the log keep.
     ensures serves { (own : Addr) → slice_get cluster.now shard.0 ≡ Some own
-        → ServesWith D.Disk disk.old disk.new (option_map (λ name. name.now) journal.entry) (node_setting plan.now tag (node.Server shard) cluster.now) shard own turns counts
-        (record { link = link_call L.Link link.old link.new; out = sink_call S.Sink out.old out.new })
-        result }
+        → ServesWith D.Disk disk.old disk.new (option_map (λ name. name.now) journal.entry) (option_map (λ name. name.now) log.entry)
+        (node_setting plan.now tag (node.Server shard) cluster.now) shard own turns counts
+        (record { link = link_call L.Link link.old link.new; out = sink_call S.Sink out.old out.new }) (book_call B.Book book.old book.new) result }
 {
     let header = own_header(plan, tag, shard);
     let setting = Setting {
         plan,
         cluster,
         header: &header,
+        logs: log.is_some(),
     };
     match journal {
-        None => serve_unkept(alloc, setting, shard, counts, link, turns, out, disk),
-        Some(name) => serve_kept(alloc, setting, shard, counts, link, turns, out, name, disk),
+        None => serve_unkept(
+            alloc, setting, shard, counts, link, turns, out, disk, log, book,
+        ),
+        Some(name) => serve_kept(
+            alloc, setting, shard, counts, link, turns, out, name, disk, log, book,
+        ),
     }
 }
 
 // Serves without a journal.
-fn serve_unkept<L: Link, S: Sink, D: Disk>(
+fn serve_unkept<L: Link, S: Sink, D: Disk, B: Book>(
     alloc: Global,
     setting: Setting<'_>,
     shard: Shard,
@@ -86,18 +97,22 @@ fn serve_unkept<L: Link, S: Sink, D: Disk>(
     turns: u32,
     out: &mut S,
     disk: &mut D,
+    log: Option<&str>,
+    book: &mut B,
 ) -> ServeEnd
     requires cluster { length setting.cluster.now ≡ setting.plan.now.program.shards }
     requires shard { shard.0 < setting.plan.now.program.shards }
     requires header { FitsHeader setting.header.now }
+    requires named { setting.logs ≡ is_some log }
     ensures link_cause { HasCause (serve_link_failed result) (L.faults link.old) (L.faults link.new) }
     ensures opened { serve_refused result ≡ false }
     ensures sink_cause { HasCause (serve_sink_failed result) (S.faults out.old) (S.faults out.new) }
+    ensures book_cause { HasCause (serve_book_failed result) (B.faults book.old) (B.faults book.new) }
     ensures disk_cause { HasCause (serve_disk_failed result) (D.faults disk.old) (D.faults disk.new) }
     ensures disk_stays { disk.new ≡ disk.old }
     ensures serves { (own : Addr) → slice_get setting.entry.cluster.now shard.0 ≡ Some own
-        → ServesUnkept (setting_of setting.entry) shard own turns counts
-        (record { link = link_call L.Link link.old link.new; out = sink_call S.Sink out.old out.new }) result }
+        → ServesUnkept (option_map (λ name. name.now) log.entry) (setting_of setting.entry) shard own turns counts
+        (record { link = link_call L.Link link.old link.new; out = sink_call S.Sink out.old out.new }) (book_call B.Book book.old book.new) result }
 {
     match Server::new(alloc, setting.plan, shard) {
         Err(_) => ServeEnd::NoMemory,
@@ -109,18 +124,21 @@ fn serve_unkept<L: Link, S: Sink, D: Disk>(
                 shard,
                 &mut server_node,
                 &[],
+                &[],
                 counts,
                 link,
                 turns,
                 out,
                 disk,
+                log,
+                book,
             )
         }
     }
 }
 
 // Serves with the journal of a name.
-fn serve_kept<L: Link, S: Sink, D: Disk>(
+fn serve_kept<L: Link, S: Sink, D: Disk, B: Book>(
     alloc: Global,
     setting: Setting<'_>,
     shard: Shard,
@@ -130,18 +148,22 @@ fn serve_kept<L: Link, S: Sink, D: Disk>(
     out: &mut S,
     name: &str,
     disk: &mut D,
+    log: Option<&str>,
+    book: &mut B,
 ) -> ServeEnd
     requires cluster { length setting.cluster.now ≡ setting.plan.now.program.shards }
     requires shard { shard.0 < setting.plan.now.program.shards }
     requires header { FitsHeader setting.header.now }
+    requires named { setting.logs ≡ is_some log }
     ensures link_cause { HasCause (serve_link_failed result) (L.faults link.old) (L.faults link.new) }
     ensures link_stays { serve_refused result ≡ true → link.new ≡ link.old }
     ensures sink_cause { HasCause (serve_sink_failed result) (S.faults out.old) (S.faults out.new) }
+    ensures book_cause { HasCause (serve_book_failed result) (B.faults book.old) (B.faults book.new) }
     ensures disk_cause { HasCause (serve_disk_failed result) (D.faults disk.old) (D.faults disk.new) }
     ensures disk_told { D.tells disk.new ≡ true → D.tells disk.old ≡ true }
     ensures serves { (own : Addr) → slice_get setting.entry.cluster.now shard.0 ≡ Some own
-        → ServesKept D.Disk disk.old disk.new name.now (setting_of setting.entry) shard own turns counts
-        (record { link = link_call L.Link link.old link.new; out = sink_call S.Sink out.old out.new }) result }
+        → ServesKept D.Disk disk.old disk.new name.now (option_map (λ name. name.now) log.entry) (setting_of setting.entry) shard own turns counts
+        (record { link = link_call L.Link link.old link.new; out = sink_call S.Sink out.old out.new }) (book_call B.Book book.old book.new) result }
 {
     match KeptServer::open(alloc, setting.plan, setting.header.tag, shard, name, disk) {
         Err(fault) => end_of(fault),
@@ -157,6 +179,8 @@ fn serve_kept<L: Link, S: Sink, D: Disk>(
                 turns,
                 out,
                 disk,
+                log,
+                book,
             )
         }
     }
@@ -174,7 +198,7 @@ fn end_of(fault: OpenFault) -> ServeEnd
 }
 
 // Serves from what was opened: one tick is sent before the first turn.
-fn serve_opened<L: Link, S: Sink, D: Disk>(
+fn serve_opened<L: Link, S: Sink, D: Disk, B: Book>(
     alloc: Global,
     setting: Setting<'_>,
     shard: Shard,
@@ -184,20 +208,25 @@ fn serve_opened<L: Link, S: Sink, D: Disk>(
     turns: u32,
     out: &mut S,
     disk: &mut D,
+    log: Option<&str>,
+    book: &mut B,
 ) -> ServeEnd
     requires cluster { length setting.cluster.now ≡ setting.plan.now.program.shards }
     requires shard { shard.0 < setting.plan.now.program.shards }
     requires header { FitsHeader setting.header.now }
+    requires named { setting.logs ≡ is_some log }
     requires ready { IsOpen (setting_of setting) server_node.old.server }
     requires first { IsFirstNode server_node.old }
     ensures link_cause { HasCause (serve_link_failed result) (L.faults link.old) (L.faults link.new) }
     ensures opened { serve_refused result ≡ false }
     ensures sink_cause { HasCause (serve_sink_failed result) (S.faults out.old) (S.faults out.new) }
+    ensures book_cause { HasCause (serve_book_failed result) (B.faults book.old) (B.faults book.new) }
     ensures calls { CallsDisk D.Disk disk.old disk.new server_node.old.server (serve_disk_failed result) (is_end_of_journal result) }
     ensures serves { (own : Addr) → slice_get setting.entry.cluster.now shard.0 ≡ Some own
         → ComesOfServing D.Disk disk.old disk.new (setting_of setting.entry) (opened_node (setting_of setting.entry) server_node.old.server.server.state server_node.old.server.server.viewing)
         shard own turns counts server_node.old.server
-        (record { link = link_call L.Link link.old link.new; out = sink_call S.Sink out.old out.new }) result }
+        (record { link = link_call L.Link link.old link.new; out = sink_call S.Sink out.old out.new })
+        (KeepsLog (option_map (λ name. name.now) log.entry) (book_call B.Book book.old book.new) (setting_of setting.entry) shard) result }
 {
     match take_silence(alloc, setting, server_node, disk) {
         Err(NoMemory) => ServeEnd::NoMemory,
@@ -207,59 +236,15 @@ fn serve_opened<L: Link, S: Sink, D: Disk>(
             shard,
             server_node,
             &output.sends,
+            &output.log,
             counts,
             link,
             turns,
             out,
             disk,
+            log,
+            book,
         ),
-    }
-}
-
-// Serves from what a server keeps before any turn, and what it is to send then.
-fn serve_from<L: Link, S: Sink, D: Disk>(
-    alloc: Global,
-    setting: Setting<'_>,
-    shard: Shard,
-    server_node: &mut ServerNode,
-    sends: &[Datagram],
-    counts: bool,
-    link: &mut L,
-    turns: u32,
-    out: &mut S,
-    disk: &mut D,
-) -> ServeEnd
-    requires cluster { length setting.cluster.now ≡ setting.plan.now.program.shards }
-    requires shard { shard.0 < setting.plan.now.program.shards }
-    requires header { FitsHeader setting.header.now }
-    requires ready { IsOpen (setting_of setting) server_node.old.server }
-    ensures link_cause { HasCause (serve_link_failed result) (L.faults link.old) (L.faults link.new) }
-    ensures opened { serve_refused result ≡ false }
-    ensures sink_cause { HasCause (serve_sink_failed result) (S.faults out.old) (S.faults out.new) }
-    ensures calls { CallsDisk D.Disk disk.old disk.new server_node.old.server (serve_disk_failed result) (is_end_of_journal result) }
-    ensures serves { (own : Addr) → slice_get setting.entry.cluster.now shard.0 ≡ Some own → (messages : List Outgoing)
-        → ComesOfServing D.Disk disk.old disk.new (setting_of setting.entry) (node_of server_node.old messages (map sending sends.now) false)
-        shard own turns counts server_node.old.server
-        (record { link = link_call L.Link link.old link.new; out = sink_call S.Sink out.old out.new }) result }
-{
-    let first = match first_text(alloc, shard) {
-        Ok(first) => first,
-        Err(_) => return ServeEnd::NoMemory,
-    };
-    match link.bind(setting.cluster.addr(shard)) {
-        Bound::Failed => return ServeEnd::LinkFault,
-        Bound::Ok => {}
-    }
-    match out.write(&first) {
-        Written::Failed => return ServeEnd::SinkFault,
-        Written::Ok => {}
-    }
-    match run_turns(alloc, setting, server_node, sends, link, turns, disk) {
-        RunEnd::Over(stopped) => close(alloc, shard, stopped, counts, server_node, out),
-        RunEnd::NoMemory => ServeEnd::NoMemory,
-        RunEnd::LinkFault => ServeEnd::LinkFault,
-        RunEnd::Full => ServeEnd::Full,
-        RunEnd::Disk => ServeEnd::Disk,
     }
 }
 
@@ -285,48 +270,5 @@ fn first_node(server: KeptServer) -> ServerNode
         server,
         heard: Heard::new(),
         counts: Counts::new(),
-    }
-}
-
-// The text of the first line.
-fn first_text(alloc: Global, shard: Shard) -> Result<Vec<u8>, NoMemory>
-    ensures { IfOk result (λ text. text.items ≡ first_text shard) }
-{
-    let mut text = Vec::new(alloc);
-    append_line(alloc, &mut text, NodeLine::Serving(shard))?;
-    Ok(text)
-}
-
-// Writes the last lines.
-fn close<S: Sink>(
-    alloc: Global,
-    shard: Shard,
-    stopped: bool,
-    counts: bool,
-    server_node: &ServerNode,
-    out: &mut S,
-) -> ServeEnd
-    ensures cause { HasCause (serve_sink_failed result) (S.faults out.old) (S.faults out.new) }
-    ensures link { serve_link_failed result ≡ false }
-    ensures opened { serve_refused result ≡ false }
-    ensures journal { is_end_of_journal result ≡ false }
-    ensures closes { ClosesServe result (node_lines_text (end_lines shard stopped counts server_node.now.counts)) (S.taken out.old) (S.taken out.new) }
-{
-    let mut text = Vec::new(alloc);
-    if append_end(
-        alloc,
-        &mut text,
-        shard,
-        stopped,
-        counts,
-        &server_node.counts,
-    )
-    .is_err()
-    {
-        return ServeEnd::NoMemory;
-    }
-    match out.write(&text) {
-        Written::Ok => ServeEnd::Done,
-        Written::Failed => ServeEnd::SinkFault,
     }
 }
