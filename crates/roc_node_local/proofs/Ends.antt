@@ -76,6 +76,7 @@ blamed_behind submit.Done bad old new failed succeeded rises wrong = blamed_chil
 blamed_behind submit.Unanswered bad old new failed succeeded rises wrong = rises
 blamed_behind submit.LinkFault bad old new failed succeeded rises wrong = rises
 blamed_behind submit.SinkFault bad old new failed succeeded rises wrong = rises
+blamed_behind submit.BookFault bad old new failed succeeded rises wrong = rises
 blamed_behind submit.NoMemory bad old new failed succeeded rises wrong = rises
 
 pub blamed : (asked : LocalAsk) (call : TurnsCall) (starts : AllStarted) (running : ℕ) (first : LocalEnd) (bad : Option ChildEnd) (o p : Option (List ChildWait)) (children : List ℕ) (old mid new : ℕ)

@@ -12,9 +12,10 @@ use Rattle.roc_io.specs.Observed.{Adds}
 use Rattle.roc_plan.specs.Groups.{Plan}
 use Rattle.roc_sched.specs.declared.line.Request.{Request}
 use Rattle.roc_io.specs.Call.{LinkView, NodeCall, ChildrenCall}
+use Rattle.roc_book.specs.Call.{BookCall}
 use Rattle.roc_node.specs.Moves.{Moves}
 use Rattle.roc_node.specs.NodeEvent.{NodeSetting, node_setting}
-use Rattle.roc_node_submit.specs.SubmitEnd.{TurnsCall, turns_of, Submits, any_address}
+use Rattle.roc_node_submit.specs.SubmitEnd.{TurnsCall, turns_of, Submits, any_address, submit_book_failed}
 use Rattle.roc_node_submit.specs.declared.ends.SubmitEnd.{SubmitEnd}
 use Rattle.roc_node_submit.specs.declared.ends.SubmitEnd.TheVariants as submit
 use Rattle.roc_node_local.specs.declared.children.ChildEnd.{ChildEnd}
@@ -55,17 +56,25 @@ pub record IsNothing (call : LocalCall) : Type 0 where
   pub awaited : call.children.awaited_new ≡ call.children.awaited_old
   pub sent_at_waits : call.children.sent_at_waits_new ≡ call.children.sent_at_waits_old
 
+-- what a book tells that keeps nothing
+abbrev pub untold_book : BookCall
+untold_book = record { old = record { opened = None; taken = None }; new = record { opened = None; taken = None } }
+
+-- without a log no book fails, so that its end does not come
 abbrev pub local_end_of : SubmitEnd → LocalEnd
 local_end_of submit.Done = Done
 local_end_of submit.Unanswered = Unanswered
 local_end_of submit.LinkFault = LinkFault
 local_end_of submit.SinkFault = SinkFault
+local_end_of submit.BookFault = SinkFault
 local_end_of submit.NoMemory = NoMemory
 
 -- what is done between the starts and the stops, and how it ends: where all servers run, the requests are submitted; else nothing is done, and
--- the server that comes behind those that run is to blame
+-- the server that comes behind those that run is to blame. No log is kept
 abbrev pub Works : LocalAsk → TurnsCall → AllStarted → (running : ℕ) → LocalEnd → Type 0
-Works asked call Ok running end = (submitted : SubmitEnd) × Submits asked.setting 0 asked.requests asked.turns call submitted × (end ≡ local_end_of submitted)
+Works asked call Ok running end =
+    (submitted : SubmitEnd) × Submits asked.setting 0 asked.requests asked.turns None call untold_book submitted × (end ≡ local_end_of submitted)
+    × (submit_book_failed submitted ≡ false)
 Works asked call NoRoom running end = IsIdle call × (end ≡ NoMemory)
 Works asked call Failed running end = IsIdle call × (end ≡ ChildFault (record { 0 = running }) None)
 

@@ -6,7 +6,7 @@
 //! (`specs/Stops.antt`). [`run_local`] binds, starts the server of each shard, submits the requests as coordinator 0,
 //! stops the servers and awaits each child that was started, also behind a fault and behind want of memory: at each
 //! wait, the link had sent all stops (`specs/Local.antt`, on `specs/Children.antt`); the first of what went wrong is the end, and a child is to blame
-//! only if nothing else was.
+//! only if nothing else was. No log is kept.
 #![tactic(auto)]
 
 mod children;

@@ -1,10 +1,11 @@
 //! A run with the servers of its cluster as children.
-ghost use Rattle.std.specs.Prelude.{◌≡◌, ◌≤◌, ℕ, List, [], length, map, string_bytes, None, IfOk};
+ghost use Rattle.std.specs.Prelude.{◌≡◌, ◌≤◌, false, ℕ, List, [], length, map, string_bytes, None, IfOk};
 ghost use Rattle.roc_io.specs.Call.{children_call, link_call, link_view, sink_call};
 ghost use Rattle.roc_io.specs.Cause.{HasCause};
 ghost use Rattle.roc_io.specs.Link.{sending};
 ghost use Rattle.roc_io.specs.Spawner.{command_words};
 ghost use Rattle.roc_node.specs.Moves.{Moves};
+ghost use Rattle.roc_node_submit.specs.SubmitEnd.{submit_book_failed};
 ghost use Rattle.roc_node_local.specs.Stops.{stop_bytes};
 ghost use Rattle.roc_node_local.specs.Children.{serve_commands};
 ghost use Rattle.roc_node_local.specs.Local.{BlamesChild, RunsLocal, RunsServers, Works, local_ask, local_end_of, local_link_failed, local_sink_failed, stops_behind, with_child};
@@ -12,6 +13,7 @@ ghost use Rattle.roc_node_local.specs.Local.{BlamesChild, RunsLocal, RunsServers
 use crate::children::{ChildEnd, await_all, serve_commands};
 use crate::stops::{ANY, send_to_each, stop_bytes};
 use roc_base::{NoMemory, Shard};
+use roc_book::NoBook;
 use roc_cluster::Cluster;
 use roc_io::{AllStarted, Bound, Child, Link, Sink, Spawner, start_all};
 use roc_node_submit::{SubmitEnd, submit_turns};
@@ -72,7 +74,9 @@ fn orders_for(
     })
 }
 
+// Without a log the book, which is none, does not fail.
 fn end_of(submitted: SubmitEnd) -> LocalEnd
+    requires { submit_book_failed submitted ≡ false }
     ensures { result ≡ local_end_of submitted }
 {
     match submitted {
@@ -80,6 +84,7 @@ fn end_of(submitted: SubmitEnd) -> LocalEnd
         SubmitEnd::Unanswered => LocalEnd::Unanswered,
         SubmitEnd::LinkFault => LocalEnd::LinkFault,
         SubmitEnd::SinkFault => LocalEnd::SinkFault,
+        SubmitEnd::BookFault => unreachable!(),
         SubmitEnd::NoMemory => LocalEnd::NoMemory,
     }
 }
@@ -108,7 +113,17 @@ fn work<L: Link, S: Sink>(
 {
     match starts {
         AllStarted::Ok => end_of(submit_turns(
-            alloc, plan, tag, 0, cluster, requests, link, turns, out,
+            alloc,
+            plan,
+            tag,
+            0,
+            cluster,
+            requests,
+            link,
+            turns,
+            out,
+            false,
+            &mut NoBook,
         )),
         AllStarted::NoMemory => LocalEnd::NoMemory,
         AllStarted::Failed => LocalEnd::ChildFault {

@@ -1,4 +1,6 @@
 mod Closing
+mod Booked
+mod Logged
 mod Coords
 mod Counts
 mod Keeping

@@ -53,22 +53,22 @@ unspent plan s proc args e = leb-false most_transactions s.next
     go false false true d e = absurd (cc)
     go false false false d e = refl
 
-module _ (plan : Plan) (number : ℕ) (before : List Line) (answered : ℕ) where
+module _ (S : NodeSetting) (number : ℕ) (before : List Line) (answered : ℕ) where
   abbrev KeptBehind : List Request → Submissions → Type 0
-  KeptBehind taken s = Kept plan.program number taken s.state (before ++ s.lines) answered
+  KeptBehind taken s = Kept S.plan.program number taken s.state (before ++ s.lines) answered
 
-  kept_request : (taken : List Request) (s : Submissions) (request : Request) → KeptBehind taken s → (proc : Option ℕ) → procedure_named plan.program request.name ≡ proc
-      → accepts_call plan s.state request.args proc ≡ true → KeptBehind (taken ++ request ∷ []) (submitted_call plan s request.args proc)
+  kept_request : (taken : List Request) (s : Submissions) (request : Request) → KeptBehind taken s → (proc : Option ℕ) → procedure_named S.plan.program request.name ≡ proc
+      → accepts_call S.plan s.state request.args proc ≡ true → KeptBehind (taken ++ request ∷ []) (submitted_call S s request.args proc)
   kept_request taken s request k None named e = absurd (false≢true e)
-  kept_request taken s request k (Some proc) named e = go (refusal_of plan s.state proc request.args) refl e
+  kept_request taken s request k (Some proc) named e = go (refusal_of S.plan s.state proc request.args) refl e
     where
-      go : (why : Option SubmitFault) → refusal_of plan s.state proc request.args ≡ why → is_ok (refused_or_accepted plan s.state proc request.args why).answer ≡ true
-          → KeptBehind (taken ++ request ∷ []) (with_submission s proc request.args (refused_or_accepted plan s.state proc request.args why))
+      go : (why : Option SubmitFault) → refusal_of S.plan s.state proc request.args ≡ why → is_ok (refused_or_accepted S.plan s.state proc request.args why).answer ≡ true
+          → KeptBehind (taken ++ request ∷ []) (with_submission S s proc request.args (refused_or_accepted S.plan s.state proc request.args why))
       go (Some fault) is e = absurd (false≢true e)
-      go None is e = given_as (is_view_of plan proc)
+      go None is e = given_as (is_view_of S.plan proc)
         where
           behind : CoordState → List Line → Type 0
-          behind state lines = Kept plan.program number (taken ++ request ∷ []) state lines answered
+          behind state lines = Kept S.plan.program number (taken ++ request ∷ []) state lines answered
 
           grown : List Line
           grown = before ++ (s.lines ++ Submit (next_id s.state) proc request.args ∷ [])
@@ -79,28 +79,28 @@ module _ (plan : Plan) (number : ℕ) (before : List Line) (answered : ℕ) wher
           shared : AreShared (ids_of s.state.pending) (view_ids s.state.views) s.state.unanswered
           shared = k.shared
 
-          as_transaction : behind (accepted plan s.state (new_transaction s.state proc request.args)).state grown
+          as_transaction : behind (accepted S.plan s.state (new_transaction s.state proc request.args)).state grown
           as_transaction =
-              let x = with_starts plan (new_transaction s.state proc request.args) in
+              let x = with_starts S.plan (new_transaction s.state proc request.args) in
               let are_shared : List TxnId → Type 0 = λ ids. AreShared ids (view_ids s.state.views) (s.state.unanswered ++ next_id s.state ∷ []) in
-              subst (behind (accepted plan s.state (new_transaction s.state proc request.args)).state) same_lines
-              (kept_given plan.program number taken s.state (s.state.pending ++ x ∷ []) s.state.views (before ++ s.lines) answered request proc named (unspent plan s.state proc request.args is)
+              subst (behind (accepted S.plan s.state (new_transaction s.state proc request.args)).state) same_lines
+              (kept_given S.plan.program number taken s.state (s.state.pending ++ x ∷ []) s.state.views (before ++ s.lines) answered request proc named (unspent S.plan s.state proc request.args is)
               (subst are_shared (sym (map-append (λ (y : Transaction). y.id) s.state.pending (x ∷ []))) (shared_more (ids_of s.state.pending) (view_ids s.state.views) s.state.unanswered (next_id s.state) shared)) k)
 
-          as_view : behind (accepted_view plan s.state (first_round (next_id s.state) proc request.args)).state grown
+          as_view : behind (accepted_view S.plan s.state (first_round (next_id s.state) proc request.args)).state grown
           as_view =
               let v = first_round (next_id s.state) proc request.args in
               let ps = ids_of s.state.pending in
               let vs = view_ids s.state.views in
               let all = s.state.unanswered ++ next_id s.state ∷ [] in
               let are_shared : List TxnId → Type 0 = λ ids. AreShared ps ids all in
-              subst (behind (accepted_view plan s.state v).state) same_lines
-              (kept_given plan.program number taken s.state s.state.pending (s.state.views ++ v ∷ []) (before ++ s.lines) answered request proc named (unspent plan s.state proc request.args is)
+              subst (behind (accepted_view S.plan s.state v).state) same_lines
+              (kept_given S.plan.program number taken s.state s.state.pending (s.state.views ++ v ∷ []) (before ++ s.lines) answered request proc named (unspent S.plan s.state proc request.args is)
               (subst are_shared (sym (map-append (λ (w : View). w.id) s.state.views (v ∷ [])))
               (shared_swap (vs ++ next_id s.state ∷ []) ps all (shared_more vs ps s.state.unanswered (next_id s.state) (shared_swap ps vs s.state.unanswered shared)))) k)
 
           given_as : (b : Bool)
-              → KeptBehind (taken ++ request ∷ []) (with_submission s proc request.args (if b then accepted_view plan s.state (first_round (next_id s.state) proc request.args) else accepted plan s.state (new_transaction s.state proc request.args)))
+              → KeptBehind (taken ++ request ∷ []) (with_submission S s proc request.args (if b then accepted_view S.plan s.state (first_round (next_id s.state) proc request.args) else accepted S.plan s.state (new_transaction s.state proc request.args)))
           given_as true = as_view
           given_as false = as_transaction
 
@@ -110,20 +110,20 @@ module _ (plan : Plan) (number : ℕ) (before : List Line) (answered : ℕ) wher
     pub parts : requests ≡ more ++ after.left
     pub kept : KeptBehind (taken ++ more) after
 
-  kept_all : (requests taken : List Request) (s : Submissions) → KeptBehind taken s → KeptMore taken requests (submitted_all plan s requests)
+  kept_all : (requests taken : List Request) (s : Submissions) → KeptBehind taken s → KeptMore taken requests (submitted_all S s requests)
   unfolding submitted_all
   kept_all [] taken s k = record { more = []; parts = refl; kept = subst (λ l. KeptBehind l s) (sym (append-nil taken)) k }
   kept_all (request ∷ rest) taken s k =
-      go (accepts plan s.state request)
-      (λ e. kept_all rest (taken ++ request ∷ []) (submitted plan s request) (kept_request taken s request k (procedure_named plan.program request.name) refl e)) refl
+      go (accepts S.plan s.state request)
+      (λ e. kept_all rest (taken ++ request ∷ []) (submitted S s request) (kept_request taken s request k (procedure_named S.plan.program request.name) refl e)) refl
     where
-      go : (b : Bool) → (accepts plan s.state request ≡ true → KeptMore (taken ++ request ∷ []) rest (submitted_all plan (submitted plan s request) rest)) → accepts plan s.state request ≡ b
-          → KeptMore taken (request ∷ rest) (if b then submitted_all plan (submitted plan s request) rest else record s { left = request ∷ rest })
+      go : (b : Bool) → (accepts S.plan s.state request ≡ true → KeptMore (taken ++ request ∷ []) rest (submitted_all S (submitted S s request) rest)) → accepts S.plan s.state request ≡ b
+          → KeptMore taken (request ∷ rest) (if b then submitted_all S (submitted S s request) rest else record s { left = request ∷ rest })
       go true then_rest e =
           let m = then_rest e in record {
             more = request ∷ m.more;
             parts = ap (λ (l : List Request). request ∷ l) m.parts;
-            kept = subst (λ l. KeptBehind l (submitted_all plan (submitted plan s request) rest)) (append_assoc taken (request ∷ []) m.more) m.kept;
+            kept = subst (λ l. KeptBehind l (submitted_all S (submitted S s request) rest)) (append_assoc taken (request ∷ []) m.more) m.kept;
           }
       go false then_rest e = record { more = []; parts = refl; kept = subst (λ l. KeptBehind l s) (sym (append-nil taken)) k }
 
@@ -211,7 +211,7 @@ module _ (S : NodeSetting) (number : ℕ) where
 
   turned : (requests : List Request) (node : CoordNodeState) (event : NodeEvent) → KeptRun requests node → KeptRun requests (coord_turn S node event)
   turned requests node event r =
-      let m = kept_all S.plan number node.lines node.answered node.left r.taken (none_submitted node.state)
+      let m = kept_all S number node.lines node.answered node.left r.taken (none_submitted node.state)
       (subst (λ l. Kept S.plan.program number r.taken node.state l node.answered) (sym (append-nil node.lines)) r.kept) in
       record {
         taken = r.taken ++ m.more;

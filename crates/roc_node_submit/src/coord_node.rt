@@ -2,21 +2,22 @@
 ghost use Rattle.std.specs.Prelude.{◌≡◌, ◌≤◌, ◌++◌, length, IfOk, OnOk};
 ghost use Rattle.roc_coord.specs.Fits.{CoordFits};
 ghost use Rattle.roc_wire.specs.Fits.{FitsHeader};
+ghost use Rattle.roc_wire.specs.declared.header.Header.{Header as Sender};
 ghost use Rattle.roc_report.specs.Text.{lines_text};
 ghost use Rattle.roc_node.specs.Posting.{none_heard, packets_for};
 ghost use Rattle.roc_node.specs.NodeEvent.{silent};
 ghost use Rattle.roc_node.specs.Setting.{setting_of};
 ghost use Rattle.roc_coord.specs.Step.{after_message};
 ghost use Rattle.roc_node.specs.Judgement.{judged};
-ghost use Rattle.roc_node_submit.specs.CoordRun.{reply_lines, answered_then, step_of_judged};
-ghost use Rattle.roc_node_submit.specs.Inner.CoordTurn.{SubmitsOne, SubmitsSome, SubmitsHalf, TakesStep, TakesHalf};
+ghost use Rattle.roc_node_submit.specs.CoordRun.{reply_lines, reply_logged, datagram_logged, answered_then, step_of_judged};
+ghost use Rattle.roc_node_submit.specs.Inner.CoordTurn.{SubmitsOne, SubmitsSome, SubmitsHalf, TakesStep, TakesHalf, gathered};
 
+use crate::logging::{log_message, log_silence, log_submission};
 use roc_base::NoMemory;
 use roc_coord::{Coord, Handled, SubmitFault};
 use roc_io::Datagram;
 use roc_msg::{Msg, Outbox};
 use roc_node::{Heard, Judged, Setting, judge, post};
-use roc_plan::Plan;
 use roc_program::Workload;
 use roc_report::{ReportLine, append};
 use roc_sched::Request;
@@ -30,9 +31,10 @@ pub struct CoordNode {
     pub answered: u64,
 }
 
-/// What is due: text that is to be written, and the datagrams that are to be sent behind it.
+/// What is due: lines of the log, where one is kept, text that is to be written behind them, and the datagrams that are to be sent behind that.
 #[derive(Drop)]
 pub struct TurnOutput {
+    pub log: Vec<u8>,
     pub text: Vec<u8>,
     pub sends: Vec<Datagram>,
 }
@@ -40,28 +42,40 @@ pub struct TurnOutput {
 // Submits a request, and answers whether the coordinator accepts it.
 fn submit_one(
     alloc: Global,
-    plan: &Plan,
+    setting: Setting<'_>,
     coord: &mut Coord,
     request: &Request,
     outbox: &mut Outbox,
     text: &mut Vec<u8>,
+    log: &mut Vec<u8>,
 ) -> Result<bool, NoMemory>
-    requires { CoordFits plan.now coord.old }
-    ensures submits { IfOk result (λ accepted. SubmitsOne accepted plan.now request.now coord.old coord.new outbox.old.messages outbox.new.messages text.old.items text.new.items) }
-    ensures fits { CoordFits plan.now coord.new }
+    requires fits { CoordFits setting.plan.now coord.old }
+    requires header { FitsHeader setting.header.now }
+    ensures submits { IfOk result (λ accepted. SubmitsOne accepted (setting_of setting.entry) setting.entry.logs request.now coord.old coord.new
+        (gathered outbox.old.messages text.old.items log.old.items) (gathered outbox.new.messages text.new.items log.new.items)) }
+    ensures fits { CoordFits setting.entry.plan.now coord.new }
 {
-    let proc = match plan.procedure_named(request.name.as_bytes()) {
+    let proc = match setting.plan.procedure_named(request.name.as_bytes()) {
         Some(proc) => proc,
         None => return Ok(false),
     };
-    match coord.submit(plan, proc, request.args.as_slice(), outbox) {
+    let had = outbox.messages().len();
+    match coord.submit(setting.plan, proc, request.args.as_slice(), outbox) {
         Ok(id) => {
             let line = ReportLine::Submit {
                 id,
                 proc,
                 args: &request.args,
             };
-            append(alloc, text, plan.workload(), &line)?;
+            append(alloc, text, setting.plan.workload(), &line)?;
+            log_submission(
+                alloc,
+                setting,
+                log,
+                proc,
+                &request.args,
+                &outbox.messages()[had..],
+            )?;
             Ok(true)
         }
         Err(SubmitFault::NoMemory) => Err(NoMemory),
@@ -75,20 +89,31 @@ fn submit_one(
 // The requests that are submitted before a turn, one after another, until the coordinator refuses one.
 fn submit_some(
     alloc: Global,
-    plan: &Plan,
+    setting: Setting<'_>,
     coord_node: &mut CoordNode,
     requests: &[Request],
     outbox: &mut Outbox,
     text: &mut Vec<u8>,
+    log: &mut Vec<u8>,
 ) -> Result<(), NoMemory>
-    requires fits { CoordFits plan.now coord_node.old.coord }
+    requires fits { CoordFits setting.plan.now coord_node.old.coord }
+    requires header { FitsHeader setting.header.now }
     requires next { coord_node.old.next ≤ length requests.now }
-    ensures submits { OnOk result (SubmitsSome plan.now requests.now coord_node.old coord_node.new outbox.old.messages outbox.new.messages text.old.items text.new.items) }
-    ensures fits { CoordFits plan.now coord_node.new.coord }
+    ensures submits { OnOk result (SubmitsSome (setting_of setting.entry) setting.entry.logs requests.now coord_node.old coord_node.new
+        (gathered outbox.old.messages text.old.items log.old.items) (gathered outbox.new.messages text.new.items log.new.items)) }
+    ensures fits { CoordFits setting.entry.plan.now coord_node.new.coord }
     ensures next { coord_node.new.next ≤ length requests.now }
 {
     for request in &requests[coord_node.next..] {
-        if !submit_one(alloc, plan, &mut coord_node.coord, request, outbox, text)? {
+        if !submit_one(
+            alloc,
+            setting,
+            &mut coord_node.coord,
+            request,
+            outbox,
+            text,
+            log,
+        )? {
             return Ok(());
         }
         coord_node.next += 1;
@@ -107,22 +132,24 @@ pub fn make_submissions(
     requires header { FitsHeader setting.header.now }
     requires cluster { length setting.cluster.now ≡ setting.plan.now.program.shards }
     requires next { coord_node.old.next ≤ length requests.now }
-    ensures submits { IfOk result (λ output. SubmitsHalf (setting_of setting.entry) requests.now coord_node.old coord_node.new output.text.items output.sends.items) }
+    ensures submits { IfOk result (SubmitsHalf (setting_of setting.entry) setting.entry.logs requests.now coord_node.old coord_node.new) }
     ensures fits { CoordFits setting.entry.plan.now coord_node.new.coord }
     ensures next { coord_node.new.next ≤ length requests.now }
 {
     let mut outbox = Outbox::new(alloc);
     let mut text = Vec::new(alloc);
+    let mut log = Vec::new(alloc);
     submit_some(
         alloc,
-        setting.plan,
+        setting,
         coord_node,
         requests,
         &mut outbox,
         &mut text,
+        &mut log,
     )?;
     let sends = post_all(alloc, setting, &outbox)?;
-    Ok(TurnOutput { text, sends })
+    Ok(TurnOutput { log, text, sends })
 }
 
 // Adds the line of a reply, if a transaction or a view has it now.
@@ -173,18 +200,21 @@ fn post_all(alloc: Global, setting: Setting<'_>, outbox: &Outbox) -> Result<Vec<
     )
 }
 
-// A delivery.
+// A delivery, which these bytes spell.
 fn take_message(
     alloc: Global,
     setting: Setting<'_>,
     coord_node: &mut CoordNode,
+    bytes: &[u8],
     msg: &Msg,
 ) -> Result<TurnOutput, NoMemory>
     requires fits { CoordFits setting.plan.now coord_node.old.coord }
     requires header { FitsHeader setting.header.now }
     requires cluster { length setting.cluster.now ≡ setting.plan.now.program.shards }
-    ensures takes { IfOk result (λ output. TakesStep (setting_of setting.entry)
-        (after_message setting.entry.plan.now coord_node.old.coord msg.now) coord_node.old coord_node.new output.text.items output.sends.items) }
+    ensures takes { (from : Sender) → IfOk result (TakesStep (setting_of setting.entry) setting.entry.logs
+        (after_message setting.entry.plan.now coord_node.old.coord msg.now)
+        (datagram_logged setting.entry.header.now bytes.now (after_message setting.entry.plan.now coord_node.old.coord msg.now) (Judged.Delivery from msg.now))
+        coord_node.old coord_node.new) }
     ensures fits { CoordFits setting.entry.plan.now coord_node.new.coord }
 {
     let mut outbox = Outbox::new(alloc);
@@ -192,11 +222,13 @@ fn take_message(
         Ok(answer) => answer,
         Err(_) => return Err(NoMemory),
     };
+    let mut log = Vec::new(alloc);
+    log_message(alloc, setting, &mut log, bytes, &outbox, &answer)?;
     let mut text = Vec::new(alloc);
     push_reply(alloc, setting.plan.workload(), &mut text, &answer)?;
     let sends = post_all(alloc, setting, &outbox)?;
     coord_node.answered = answered_then(coord_node.answered, &answer);
-    Ok(TurnOutput { text, sends })
+    Ok(TurnOutput { log, text, sends })
 }
 
 /// A datagram.
@@ -209,13 +241,19 @@ pub fn take_datagram(
     requires fits { CoordFits setting.plan.now coord_node.old.coord }
     requires header { FitsHeader setting.header.now }
     requires cluster { length setting.cluster.now ≡ setting.plan.now.program.shards }
-    ensures takes { IfOk result (λ output. TakesStep (setting_of setting.entry)
-        (step_of_judged setting.entry.plan.now coord_node.old.coord (judged setting.entry.header.now.tag bytes.now)) coord_node.old coord_node.new output.text.items output.sends.items) }
+    ensures takes { IfOk result (TakesStep (setting_of setting.entry) setting.entry.logs
+        (step_of_judged setting.entry.plan.now coord_node.old.coord (judged setting.entry.header.now.tag bytes.now))
+        (datagram_logged setting.entry.header.now bytes.now (step_of_judged setting.entry.plan.now coord_node.old.coord (judged setting.entry.header.now.tag bytes.now))
+        (judged setting.entry.header.now.tag bytes.now))
+        coord_node.old coord_node.new) }
     ensures fits { CoordFits setting.entry.plan.now coord_node.new.coord }
 {
     match judge(alloc, setting.header.tag, bytes) {
-        Ok(Judged::Delivery(_sender, msg)) => { take_message(alloc, setting, coord_node, &msg) }
+        Ok(Judged::Delivery(_sender, msg)) => {
+            take_message(alloc, setting, coord_node, bytes, &msg)
+        }
         Ok(Judged::Skipped(_skip)) => Ok(TurnOutput {
+            log: Vec::new(alloc),
             text: Vec::new(alloc),
             sends: Vec::new(alloc),
         }),
@@ -232,15 +270,18 @@ pub fn take_silence(
     requires fits { CoordFits setting.plan.now coord_node.old.coord }
     requires header { FitsHeader setting.header.now }
     requires cluster { length setting.cluster.now ≡ setting.plan.now.program.shards }
-    ensures takes { IfOk result (λ output. TakesHalf (setting_of setting.entry) silent coord_node.old coord_node.new output.text.items output.sends.items) }
+    ensures takes { IfOk result (TakesHalf (setting_of setting.entry) setting.entry.logs silent coord_node.old coord_node.new) }
     ensures fits { CoordFits setting.entry.plan.now coord_node.new.coord }
 {
     let mut outbox = Outbox::new(alloc);
     if coord_node.coord.tick(setting.plan, &mut outbox).is_err() {
         return Err(NoMemory);
     }
+    let mut log = Vec::new(alloc);
+    log_silence(alloc, setting, &mut log, &outbox)?;
     let sends = post_all(alloc, setting, &outbox)?;
     Ok(TurnOutput {
+        log,
         text: Vec::new(alloc),
         sends,
     })

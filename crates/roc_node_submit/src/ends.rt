@@ -11,6 +11,8 @@ pub enum SubmitEnd {
     LinkFault,
     /// A write failed.
     SinkFault,
+    /// The book of the log failed: it was not opened, or did not take a piece.
+    BookFault,
     /// No memory.
     NoMemory,
 }

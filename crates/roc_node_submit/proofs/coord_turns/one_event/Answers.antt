@@ -5,7 +5,7 @@ use Rattle.roc_node_submit.proofs.coord_turns.one_event.Goals as goal
 
 pub returns-in-Ok-clause-takes : goal.returns-in-Ok-clause-takes
 returns-in-Ok-clause-takes g c =
-    due_packet _ _ _ c.in-Ok.output c.in-Datagram.from c.deref.result.now _ _ _ c.deref.ensures.value c.in-Ok.ensures.takes
+    due_packet _ _ _ _ c.in-Ok.output c.in-Datagram.from c.deref.result.now _ _ _ c.deref.ensures.value c.in-Ok.ensures.takes
     (Moves-one _ _ (Datagram c.in-Datagram.from) _ c.in-Datagram.ensures.arrivals c.in-Datagram.ensures.sent c.in-Datagram.ensures.lost c.in-Datagram.ensures.events)
 
 pub returns-in-Err-clause-takes : goal.returns-in-Err-clause-takes

@@ -1,8 +1,5 @@
-use Rattle.roc_node_submit.proofs.Coords.{half_done, half_untold}
+use Rattle.roc_node_submit.proofs.Coords.{half_takes}
 use Rattle.roc_node_submit.proofs.coord_turns.take_half.Goals as goal
 
-pub returns-in-Ok-put_out-clause-takes : goal.returns-in-Ok-put_out-clause-takes
-returns-in-Ok-put_out-clause-takes g c = half_done _ _ _ c.in-Ok.output _ _ _ _ _ c.in-Ok.ensures.takes c.in-Ok-put_out.ensures.moves c.in-Ok-put_out.ensures.taken
-
-pub returns-clause-takes : goal.returns-clause-takes
-returns-clause-takes g c = half_untold _ _ _ c.in-Ok.output _ _ _ _ _ c.in-Ok.ensures.takes c.in-Failed.ensures.moves c.in-Failed.ensures.taken
+pub returns-in-Ok-clause-takes : goal.returns-in-Ok-clause-takes
+returns-in-Ok-clause-takes g c = half_takes c.put_out.result _ _ _ _ c.in-Ok.output _ _ _ c.in-Ok.ensures.takes (c.put_out.ensures.puts c.args.setting.logs)
