@@ -46,44 +46,44 @@ turn_only tag silent = (refl, refl)
 
 -- ---- submissions
 
-module _ (plan : Plan) (number : ℕ) (before : List Outgoing) where
+module _ (S : NodeSetting) (number : ℕ) (before : List Outgoing) where
   -- the core with these submissions
   abbrev Stands : List OwnEvent → Submissions → Type 0
-  Stands own s = IsCoordFold plan number own s.state (before ++ s.messages)
+  Stands own s = IsCoordFold S.plan number own s.state (before ++ s.messages)
 
   call_stands : (own : List OwnEvent) (s : Submissions) (request : Request) → Stands own s → (proc : Option ℕ)
-      → Stands (own ++ cons_option (option_map (λ p. requested p request.args) proc) []) (submitted_call plan s request.args proc)
-  call_stands own s request fold None = coord_as plan fold (append-nil own) refl refl
+      → Stands (own ++ cons_option (option_map (λ p. requested p request.args) proc) []) (submitted_call S s request.args proc)
+  call_stands own s request fold None = coord_as S.plan fold (append-nil own) refl refl
   call_stands own s request fold (Some proc) =
-      let sub = after_submit plan s.state proc request.args in
-      coord_as plan (coord_goes_on (requested proc request.args) sub.state sub.sends fold (refl, refl)) refl refl (sym (append_assoc before s.messages sub.sends))
+      let sub = after_submit S.plan s.state proc request.args in
+      coord_as S.plan (coord_goes_on (requested proc request.args) sub.state sub.sends fold (refl, refl)) refl refl (sym (append_assoc before s.messages sub.sends))
 
   -- of these requests the first were submitted
   record Made (own : List OwnEvent) (requests : List Request) (after : Submissions) : Type 0 where
     pub taken : List Request
     pub all : requests ≡ taken ++ after.left
-    pub stands : Stands (own ++ own_requests plan taken) after
+    pub stands : Stands (own ++ own_requests S.plan taken) after
 
-  made : (requests : List Request) (own : List OwnEvent) (s : Submissions) → Stands own s → Made own requests (submitted_all plan s requests)
+  made : (requests : List Request) (own : List OwnEvent) (s : Submissions) → Stands own s → Made own requests (submitted_all S s requests)
   unfolding submitted_all
-  made [] own s fold = record { taken = []; all = refl; stands = coord_as plan fold (append-nil own) refl refl }
+  made [] own s fold = record { taken = []; all = refl; stands = coord_as S.plan fold (append-nil own) refl refl }
   made (request ∷ rest) own s fold =
-      go (accepts plan s.state request)
-      (made rest (own ++ cons_option (own_request plan request) []) (submitted plan s request) (call_stands own s request fold (procedure_named plan.program request.name)))
+      go (accepts S.plan s.state request)
+      (made rest (own ++ cons_option (own_request S.plan request) []) (submitted S s request) (call_stands own s request fold (procedure_named S.plan.program request.name)))
     where
-      go : (b : Bool) → Made (own ++ cons_option (own_request plan request) []) rest (submitted_all plan (submitted plan s request) rest)
-          → Made own (request ∷ rest) (if b then submitted_all plan (submitted plan s request) rest else record s { left = request ∷ rest })
+      go : (b : Bool) → Made (own ++ cons_option (own_request S.plan request) []) rest (submitted_all S (submitted S s request) rest)
+          → Made own (request ∷ rest) (if b then submitted_all S (submitted S s request) rest else record s { left = request ∷ rest })
       go true m =
           record {
             taken = request ∷ m.taken;
             all = ap (λ (l : List Request). request ∷ l) m.all;
-            stands = coord_as plan m.stands (sym (append_assoc own (cons_option (own_request plan request) []) (own_requests plan m.taken) ∙ ap (λ l. own ++ l) (one (own_request plan request) (own_requests plan m.taken)))) refl refl;
+            stands = coord_as S.plan m.stands (sym (append_assoc own (cons_option (own_request S.plan request) []) (own_requests S.plan m.taken) ∙ ap (λ l. own ++ l) (one (own_request S.plan request) (own_requests S.plan m.taken)))) refl refl;
           }
         where
           one : (p : Option OwnEvent) (l : List OwnEvent) → cons_option p [] ++ l ≡ cons_option p l
           one None l = refl
           one (Some p) l = refl
-      go false m = record { taken = []; all = refl; stands = coord_as plan fold (append-nil own) refl refl }
+      go false m = record { taken = []; all = refl; stands = coord_as S.plan fold (append-nil own) refl refl }
 
 -- ---- turns
 
@@ -114,7 +114,7 @@ module _ (S : NodeSetting) (number : ℕ) where
       )
 
   -- what a run's own events are, one turn later
-  later : CoordNodeState → List NodeEvent → CoordNodeState
+  unfoldable pub later : CoordNodeState → List NodeEvent → CoordNodeState
   later node [] = node
   later node (event ∷ events) = later (coord_turn S node event) events
 
@@ -138,7 +138,7 @@ module _ (S : NodeSetting) (number : ℕ) where
       ∙ (ap (λ l. calls ++ l) (sym (append_assoc brings behind new)) ∙ sym (append_assoc calls (brings ++ behind) new))
 
   -- the requests taken before a turn are those that are left no more
-  taken_are : (left taken rest : List Request) → left ≡ taken ++ rest → take (length left - length rest) left ≡ taken
+  pub taken_are : (left taken rest : List Request) → left ≡ taken ++ rest → take (length left - length rest) left ≡ taken
   taken_are left taken rest e =
       let count : length left - length rest ≡ length taken = rw e (let n = length-append taken rest in omega arith) in
       ap (λ n. take n left) count ∙ (ap (λ l. take (length taken) l) e ∙ take-append_seam taken rest)
@@ -160,7 +160,7 @@ module _ (S : NodeSetting) (number : ℕ) where
       go f =
           let own = f.own in
           let first = first_coord_node_state number requests in
-          let m = made S.plan number node.messages node.left own (none_submitted node.state) (coord_as S.plan f.fold refl refl (append-nil node.messages)) in
+          let m = made S number node.messages node.left own (none_submitted node.state) (coord_as S.plan f.fold refl refl (append-nil node.messages)) in
           let lists = two_more own m.taken event in
           let calls : next_requests S node ≡ m.taken = taken_are node.left m.taken (submissions_of S node).left m.all in
           let brings = turn_brings S.header.tag event in
@@ -182,6 +182,17 @@ module _ (S : NodeSetting) (number : ℕ) where
             reached = later_more first events event ∙ ap (λ (n : CoordNodeState). coord_turn S n event) f.reached;
           }
 
+  -- the own events with one turn more
+  pub owns_with_turn : {requests : List Request} {events : List NodeEvent} {node : CoordNodeState} → IsCoordRun S number requests events node → (event : NodeEvent)
+      → coord_owns S (first_coord_node_state number requests) (events ++ event ∷ [])
+      ≡ (coord_owns S (first_coord_node_state number requests) events ++ own_requests S.plan (next_requests S node)) ++ turn_brings S.header.tag event
+  unfolding new_owns
+  owns_with_turn {requests} {events} {node} r event =
+      let first = first_coord_node_state number requests in
+      let before = coord_owns S first events in
+      owns_more first events event
+      ∙ (ap (λ (n : CoordNodeState). before ++ new_owns n event) (ran r).reached ∙ sym (append_assoc before (own_requests S.plan (next_requests S node)) (turn_brings S.header.tag event)))
+
   pub coord_run_folds : {requests : List Request} {events : List NodeEvent} {node : CoordNodeState} → IsCoordRun S number requests events node
       → IsCoordFold S.plan number (coord_owns S (first_coord_node_state number requests) events) node.state node.messages
   coord_run_folds r = let f = ran r in coord_as S.plan f.fold (sym f.is) refl refl
@@ -189,3 +200,6 @@ module _ (S : NodeSetting) (number : ℕ) where
   pub coord_run_brings : {requests : List Request} {events : List NodeEvent} {node : CoordNodeState} → IsCoordRun S number requests events node
       → AreBrought S requests node.left events (coord_owns S (first_coord_node_state number requests) events)
   coord_run_brings {requests} {events} {node} r = let f = ran r in subst (λ (l : List OwnEvent). AreBrought S requests node.left events l) f.is f.brought
+
+  pub run_reaches : {requests : List Request} {events : List NodeEvent} {node : CoordNodeState} → IsCoordRun S number requests events node → later (first_coord_node_state number requests) events ≡ node
+  run_reaches r = (ran r).reached

@@ -7,3 +7,15 @@ mod ServerFolds
 mod CoordFolds
 mod RecordedFolds
 mod Reopened
+mod NodeLogs
+mod ServerNodeLogs
+mod CoordNodeLogs
+mod RunLogs
+mod WholeLogs
+mod AllLogs
+mod SideBySide
+mod WorldMoves
+mod NodeMoves
+mod SubmitMoves
+mod Woven
+mod Going

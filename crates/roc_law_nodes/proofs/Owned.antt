@@ -22,20 +22,20 @@ abbrev to_send : Envelope → Outgoing
 to_send m = record { to = m.to; msg = m.msg }
 
 module _ (node : Node) where
-  sent_here : (from : Node) → is_node from node ≡ true → (outs : List Outgoing) → messages_of node (map (sent_by from) outs) ≡ outs
+  pub sent_here : (from : Node) → is_node from node ≡ true → (outs : List Outgoing) → messages_of node (map (sent_by from) outs) ≡ outs
   sent_here from e [] = refl
   sent_here from e (out ∷ outs) =
       let rest = messages_of node (map (sent_by from) outs) in
       let others : List Envelope = filter (λ m. is_node m.from node) (map (sent_by from) outs) in
       ap (λ (b : Bool). map to_send (cond b (sent_by from out ∷ others) others)) e ∙ ap (λ (l : List Outgoing). out ∷ l) (sent_here from e outs)
 
-  sent_elsewhere : (from : Node) → is_node from node ≡ false → (outs : List Outgoing) → messages_of node (map (sent_by from) outs) ≡ []
+  pub sent_elsewhere : (from : Node) → is_node from node ≡ false → (outs : List Outgoing) → messages_of node (map (sent_by from) outs) ≡ []
   sent_elsewhere from e [] = refl
   sent_elsewhere from e (out ∷ outs) =
       let others : List Envelope = filter (λ m. is_node m.from node) (map (sent_by from) outs) in
       ap (λ (b : Bool). map to_send (cond b (sent_by from out ∷ others) others)) e ∙ sent_elsewhere from e outs
 
-  more_messages : (sent more : List Envelope) → messages_of node (sent ++ more) ≡ messages_of node sent ++ messages_of node more
+  pub more_messages : (sent more : List Envelope) → messages_of node (sent ++ more) ≡ messages_of node sent ++ messages_of node more
   more_messages sent more =
       ap (map to_send) (filter-append (λ (m : Envelope). is_node m.from node) sent more) ∙ map-append to_send (filter (λ m. is_node m.from node) sent) (filter (λ m. is_node m.from node) more)
 

@@ -1,5 +1,5 @@
 -- A server's node that is opened on the records of the world's server at a stop goes on as the world's server does
-use Rattle.std.proofs.Common.{◌≡◌, ℕ, List, [], ◌∷◌, ◌++◌, Option, Some, None, refl, sym, ap, subst, ◌∙◌, append-nil, append_assoc}
+use Rattle.std.proofs.Common.{◌≡◌, List, [], ◌∷◌, ◌++◌, Option, Some, None, refl, sym, ap, subst, ◌∙◌, append-nil, append_assoc}
 use Rattle.std.specs.Prelude.{filter}
 use Rattle.roc_sequence.proofs.Appended.{empty_more, same_more}
 use Rattle.roc_base.specs.declared.node.Shard.{Shard}

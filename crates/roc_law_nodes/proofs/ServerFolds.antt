@@ -2,7 +2,7 @@
 use Rattle.std.proofs.Common.{◌≡◌, ℕ, Bool, true, false, not, cond, List, [], ◌∷◌, ◌++◌, refl, sym, ap, subst, ◌∙◌, append-nil, append_assoc}
 use Rattle.std.proofs.lemmas.List.Elements.{filter-append}
 use Rattle.std.specs.Prelude.{filter}
-use Rattle.roc_io.specs.declared.link.Addr.{Addr}
+use Rattle.roc_io.specs.Packet.{Packet}
 use Rattle.roc_msg.specs.declared.msg.Msg.{Msg}
 use Rattle.roc_msg.specs.declared.msg.Msg.TheVariants.{Stop}
 use Rattle.roc_msg.specs.declared.outbox.Outgoing.{Outgoing}
@@ -25,14 +25,14 @@ pub turns_more : (tag : List ℕ) (events : List NodeEvent) (event : NodeEvent) 
 turns_more tag [] event = append-nil (turn_brings tag event)
 turns_more tag (e ∷ es) event = ap (λ l. turn_brings tag e ++ l) (turns_more tag es event) ∙ sym (append_assoc (turn_brings tag e) (turns_bring tag es) (turn_brings tag event))
 
-abbrev for_core : List OwnEvent → List OwnEvent
+abbrev pub for_core : List OwnEvent → List OwnEvent
 for_core own = filter is_for_core own
 
 -- what is for the core, with what one more turn brings
-core_more : (tag : List ℕ) (events : List NodeEvent) (event : NodeEvent) → for_core (turns_bring tag (events ++ event ∷ [])) ≡ for_core (turns_bring tag events) ++ for_core (turn_brings tag event)
+pub core_more : (tag : List ℕ) (events : List NodeEvent) (event : NodeEvent) → for_core (turns_bring tag (events ++ event ∷ [])) ≡ for_core (turns_bring tag events) ++ for_core (turn_brings tag event)
 core_more tag events event = ap for_core (turns_more tag events event) ∙ filter-append is_for_core (turns_bring tag events) (turn_brings tag event)
 
-of_message : (msg : Msg) (b : Bool) → is_stop msg ≡ b → for_core (delivered msg ∷ []) ≡ cond b [] (delivered msg ∷ [])
+pub of_message : (msg : Msg) (b : Bool) → is_stop msg ≡ b → for_core (delivered msg ∷ []) ≡ cond b [] (delivered msg ∷ [])
 of_message msg true e = ap (λ (b : Bool). cond (not b) (delivered msg ∷ []) []) e
 of_message msg false e = ap (λ (b : Bool). cond (not b) (delivered msg ∷ []) []) e
 
@@ -45,10 +45,11 @@ module _ (S : NodeSetting) (first : ServerNodeState) where
     same_still : (next : ServerNodeState) (none : List OwnEvent) → none ≡ [] → next.state ≡ node.state → next.viewing ≡ node.viewing → next.messages ≡ node.messages → Folds (own ++ none) next
     same_still next none e state viewing messages = server_as S.plan fold (ap (λ l. own ++ l) e ∙ append-nil own) state viewing messages
 
-    message_folds : (heard : ServerNodeState) (msg : Msg) (next : ServerNodeState) → heard.state ≡ node.state → heard.viewing ≡ node.viewing → heard.messages ≡ node.messages → (b : Bool) → is_stop msg ≡ b → TakesMessage S heard b msg next → Folds (own ++ for_core (delivered msg ∷ [])) next
-    message_folds heard msg next state viewing messages true e h =
+    message_folds : (heard : ServerNodeState) (bytes : List ℕ) (msg : Msg) (next : ServerNodeState) → heard.state ≡ node.state → heard.viewing ≡ node.viewing → heard.messages ≡ node.messages → (b : Bool) → is_stop msg ≡ b
+        → TakesMessage S heard b bytes msg next → Folds (own ++ for_core (delivered msg ∷ [])) next
+    message_folds heard bytes msg next state viewing messages true e h =
         same_still next (for_core (delivered msg ∷ [])) (of_message msg true e) (ap (λ (n : ServerNodeState). n.state) h ∙ state) (ap (λ (n : ServerNodeState). n.viewing) h ∙ viewing) (ap (λ (n : ServerNodeState). n.messages) h ∙ messages)
-    message_folds heard msg next state viewing messages false e (r, q, handles, answers, is) =
+    message_folds heard bytes msg next state viewing messages false e (r, q, handles, answers, is) =
         server_as S.plan
         (server_goes_on (delivered msg) r.state q.viewing (r.sends ++ q.sends) fold
         (r, q, subst (λ (s : ServerState). Handles S.plan s msg r) state handles, subst (λ (v : Viewing). AnswersReads S.plan v msg r q) viewing answers, refl, refl, refl))
@@ -57,12 +58,12 @@ module _ (S : NodeSetting) (first : ServerNodeState) where
         (ap (λ (n : ServerNodeState). n.viewing) is)
         (ap (λ (n : ServerNodeState). n.messages) is ∙ ap (λ l. l ++ (r.sends ++ q.sends)) messages)
 
-    judged_folds : (from : Addr) (j : Judged) (next : ServerNodeState) → TakesJudged S node from j next → Folds (own ++ for_core (judged_brings j)) next
-    judged_folds from (Delivery header msg) next h = message_folds (server_heard node header from) msg next refl refl refl (is_stop msg) refl h
-    judged_folds from (Skipped skip) next h = same_still next [] refl (ap (λ (n : ServerNodeState). n.state) h) (ap (λ (n : ServerNodeState). n.viewing) h) (ap (λ (n : ServerNodeState). n.messages) h)
+    judged_folds : (packet : Packet) (j : Judged) (next : ServerNodeState) → TakesJudged S node packet j next → Folds (own ++ for_core (judged_brings j)) next
+    judged_folds packet (Delivery header msg) next h = message_folds (server_heard node header packet.address) packet.bytes msg next refl refl refl (is_stop msg) refl h
+    judged_folds packet (Skipped skip) next h = same_still next [] refl (ap (λ (n : ServerNodeState). n.state) h) (ap (λ (n : ServerNodeState). n.viewing) h) (ap (λ (n : ServerNodeState). n.messages) h)
 
     event_folds : (event : NodeEvent) (next : ServerNodeState) → AfterEvent S node event next → Folds (own ++ for_core (turn_brings S.header.tag event)) next
-    event_folds (took packet) next h = judged_folds packet.address (judged S.header.tag packet.bytes) next h
+    event_folds (took packet) next h = judged_folds packet (judged S.header.tag packet.bytes) next h
     event_folds silent next h =
         server_as S.plan (server_goes_on ticked node.state node.viewing _ fold (refl, refl, refl)) refl (ap (λ (n : ServerNodeState). n.state) h) (ap (λ (n : ServerNodeState). n.viewing) h) (ap (λ (n : ServerNodeState). n.messages) h)
 

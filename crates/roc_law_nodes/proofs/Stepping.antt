@@ -1,5 +1,5 @@
 -- An event of the world is one node's step, or none
-use Rattle.std.proofs.Common.{◌≡◌, ℕ, ℤ, ◌-◌, zero, suc, Bool, true, false, List, [], ◌∷◌, ◌++◌, Option, Some, None, Err, map, refl, sym, ap, ◌∙◌, append-nil, append_assoc}
+use Rattle.std.proofs.Common.{◌≡◌, ℕ, ℤ, ◌-◌, Bool, true, false, List, [], ◌++◌, Option, Some, None, Err, map, refl, sym, ap, ◌∙◌, append-nil, append_assoc}
 use Rattle.std.proofs.lemmas.List.{map-append}
 use Rattle.std.specs.Option.{option_map}
 use Rattle.std.specs.Prelude.{slice_get, slice_set, if◌then◌else◌}
@@ -27,6 +27,7 @@ use Rattle.roc_protocol.specs.declared.event.Kept.{Kept}
 use Rattle.roc_protocol.specs.declared.event.Kept.TheVariants.{Lost, Sent}
 use Rattle.roc_protocol.specs.World.{sent_by}
 use Rattle.roc_protocol.proofs.Changed.{get-front}
+use Rattle.roc_views.proofs.Besides.{set_there}
 use Rattle.roc_views.specs.World.{World, mark_delivered}
 use Rattle.roc_views.specs.Happens.{Outcome, IsSubmissionOf, IsReceived, no_reads, StopsIn, at_rest, unrecorded, recorded, restarted}
 use Rattle.roc_views.specs.Run.{Transition}
@@ -46,12 +47,6 @@ pub data IsStep (plan : Plan) (w v : World) (e : Option Event) : Type 0 where
   coord_step : (number : ℕ) (own : OwnEvent) (c after : CoordState) (outs : List Outgoing) → IsStepAt w v e (Coord number) own outs
       → slice_get w.coords number ≡ Some c → CoordSteps plan c own after outs → v.coords ≡ slice_set w.coords number after → v.servers ≡ w.servers → v.viewing ≡ w.viewing
       → IsStep plan w v e
-
--- what is there already, put there once more
-set_there : {A : Type 0} (xs : List A) (i : ℕ) (a : A) → slice_get xs i ≡ Some a → slice_set xs i a ≡ xs
-set_there [] i a e = refl
-set_there (x ∷ xs) zero a e = let same : a ≡ x = cc in ap (λ y. y ∷ xs) same
-set_there (x ∷ xs) (suc i) a e = ap (λ ys. x ∷ ys) (set_there xs i a e)
 
 -- a submission at a coordinator, refused or accepted
 record Lands (w : World) (n : ℕ) (sub : Submission) (v : World) : Type 0 where

@@ -1,8 +1,7 @@
 -- In a run of the world, each node's state and messages are the fold of its step over its own events
-use Rattle.std.proofs.Common.{◌≡◌, ◌≢◌, ℕ, zero, suc, ◌+◌, ◌==◌, Bool, true, false, List, [], ◌∷◌, ◌++◌, Some, map, refl, sym, ap, subst, ◌∙◌, append-nil, arith}
+use Rattle.std.proofs.Common.{◌≡◌, ◌≢◌, ℕ, ◌==◌, Bool, true, false, List, [], ◌∷◌, ◌++◌, Some, refl, sym, ap, subst, ◌∙◌, append-nil, arith}
 use Rattle.std.proofs.lemmas.Bool.{eqb-true, eq-eqb, false≢true}
 use Rattle.std.specs.Prelude.{slice_get, slice_set}
-use Rattle.std.specs.List.{range_with_len}
 use Rattle.roc_sequence.proofs.Members.{same_there}
 use Rattle.roc_base.specs.declared.node.Shard.{Shard}
 use Rattle.roc_base.specs.declared.node.Node.{Node}
@@ -17,6 +16,7 @@ use Rattle.roc_views.specs.World.{World}
 use Rattle.roc_views.specs.Run.{Stepped, IsRun, at_beginning, steps_on}
 use Rattle.roc_protocol.proofs.Changed.{get-set_here, get-set_other}
 use Rattle.roc_protocol.proofs.Firsts.{found_at}
+use Rattle.roc_law_audit.proofs.ServerLogs.{found_too}
 use Rattle.roc_law_nodes.specs.Own.{OwnEvent, own_events, messages_of}
 use Rattle.roc_law_nodes.specs.Fold.{ServerSteps, IsServerFoldFrom, IsServerFold, server_begun, server_goes_on, CoordSteps, IsCoordFold, coord_begun, coord_goes_on}
 use Rattle.roc_law_nodes.proofs.Stepping.{IsStepAt, IsStep, no_step, server_step, coord_step, stepping}
@@ -37,13 +37,6 @@ module _ (plan : Plan) where
       subst (λ (l : List OwnEvent). IsCoordFold plan number l d more) (sym e) (subst (λ (u : CoordState). IsCoordFold plan number events u more) (sym st) (subst (λ (l : List Outgoing). IsCoordFold plan number events c l) (sym m) f))
 
 -- ---- servers
-
--- where one list of numbered things has something, so has another of as many
-found_too : {A B : Type 0} (f : ℕ → A) (g : ℕ → B) (a n number : ℕ) (x : A) → slice_get (map f (range_with_len a n)) number ≡ Some x
-    → slice_get (map g (range_with_len a n)) number ≡ Some (g (a + number))
-found_too f g a zero number x e = absurd (cc)
-found_too f g a (suc n) zero x e = let same : a ≡ a + 0 = omega arith in ap (λ k. Some (g k)) same
-found_too f g a (suc n) (suc number) x e = let same : (a + 1) + number ≡ a + suc number = omega arith in found_too f g (a + 1) n number x e ∙ ap (λ k. Some (g k)) same
 
 -- what a shard's server keeps for views stands here, and the events lead to it
 abbrev pub IsFoldKept : Plan → Shard → List Viewing → List OwnEvent → ServerState → List Outgoing → Type 0

@@ -2,3 +2,6 @@ pub mod Own
 pub mod Fold
 pub mod Records
 pub mod Turns
+pub mod Interleaved
+pub mod WorldOf
+pub mod Logs

@@ -1,31 +1,46 @@
 //! The world's nodes and the nodes that people run are one. Each law is the contract of a function that does nothing.
-ghost use Rattle.std.specs.Prelude.{◌≡◌, ℕ, not, List, [], ◌∷◌, ◌++◌, Option, Some, filter, slice_get};
+ghost use Rattle.std.specs.Prelude.{◌≡◌, ◌⊎◌, ℕ, ◌<◌, not, List, [], ◌∷◌, ◌++◌, Option, Some, filter, length, map, slice_get};
 ghost use Rattle.std.specs.List.{AllByRecursion};
+ghost use Rattle.roc_audit.specs.Witness.{IsSerialWitness};
+ghost use Rattle.roc_base.specs.declared.id.TxnId.{TxnId};
 ghost use Rattle.roc_base.specs.declared.node.Shard.{Shard};
+ghost use Rattle.roc_base.specs.declared.node.Node.{Node};
 ghost use Rattle.roc_base.specs.declared.node.Node.TheVariants as node;
 ghost use Rattle.roc_coord.specs.State.{CoordState};
 ghost use Rattle.roc_io.specs.declared.link.Addr.{Addr};
+ghost use Rattle.roc_io.specs.Packet.{Packet};
+ghost use Rattle.roc_kept.specs.Laws.{IsRecovered, HasRefusal};
 ghost use Rattle.roc_msg.specs.declared.msg.Msg.{Msg};
+ghost use Rattle.roc_msg.specs.declared.msg.Envelope.{Envelope};
 ghost use Rattle.roc_msg.specs.declared.outbox.Outgoing.{Outgoing};
 ghost use Rattle.roc_node_submit.specs.CoordRun.{CoordNodeState, first_coord_node_state, IsCoordRun};
-ghost use Rattle.roc_node.specs.NodeEvent.{NodeEvent, NodeSetting};
-ghost use Rattle.roc_node_serve.specs.ServerRun.{ServerNodeState, IsServerRun, IsServerRunFrom, opened_node};
+ghost use Rattle.roc_node.specs.NodeEvent.{NodeEvent, took, NodeSetting};
+ghost use Rattle.roc_node_serve.specs.ServerRun.{ServerNodeState, IsServerRun, IsServerRunFrom, AfterTurn, opened_node};
+ghost use Rattle.roc_plan.specs.Accepted.{IsAccepted};
 ghost use Rattle.roc_plan.specs.Groups.{Plan};
 ghost use Rattle.roc_protocol.specs.declared.event.Kept.{Kept};
 ghost use Rattle.roc_views.specs.Run.{Stepped, IsRun};
 ghost use Rattle.roc_views.specs.World.{World};
 ghost use Rattle.roc_law_nodes.specs.Fold.{IsServerFold, IsCoordFold};
+ghost use Rattle.roc_law_nodes.specs.Interleaved.{AllSettings, AllNodes, Move, CoordPlace, AreInterleaved, WasSentTo, IsCaused, IsCoordAt, setting_at, node_at, events_at, lines_by};
 ghost use Rattle.roc_law_nodes.specs.Records.{IsRecordedFold};
 ghost use Rattle.roc_law_nodes.specs.Own.{OwnEvent, stopped, own_events, messages_of};
-ghost use Rattle.roc_law_nodes.specs.Turns.{turns_bring, is_for_core, AreTurnsOf, HasTurn, is_request, coord_owns, AreBrought};
+ghost use Rattle.roc_law_nodes.specs.WorldOf.{IsWorldOf};
+ghost use Rattle.roc_law_nodes.specs.Turns.{SpellsDelivery, turns_bring, is_for_core, AreTurnsOf, HasTurn, is_request, coord_owns, AreBrought};
+ghost use Rattle.roc_replay.specs.Readback.{history_in};
 ghost use Rattle.roc_sched.specs.declared.line.Request.{Request};
 ghost use Rattle.roc_step.specs.Restarts.{StandsFor};
 ghost use Rattle.roc_step.specs.State.{ServerState, Viewing};
 ghost use Rattle.roc_wire.specs.declared.header.Header.{Header};
+ghost use Rattle.roc_wire.specs.Reading.{IsBytes};
 
+use roc_component::laws::{order_exists, order_is_one};
+use roc_kept::laws::opened_or_refused;
 use roc_step::laws::{
     kept_fold_is_one, read_step_is_one, records_stand, restarts_stand, step_is_one,
 };
+use roc_views::beginnings::{first_worlds_begin, witness_is_serial, worlds_fit};
+use roc_views::worlds::events_have_outcomes;
 use roc_wire::laws::spelled_is_read;
 
 /// In every run of the world, the state of each node and the messages that the world has from it, in the order in which it sent them,
@@ -96,6 +111,17 @@ pub fn own_events_have_turns()
     ensures { (header : Header) (from : Addr) (owns : List OwnEvent) → AllByRecursion (HasTurn header) owns → (events : List NodeEvent) × AreTurnsOf header.tag events owns }
 {}
 
+/// Each file is empty, or recovers a server, or is refused at a place: something comes of each message at each server, so a record that
+/// the decoder reads is taken or ignored. That it is never two of these stands with `opened_or_refused` of `roc_kept`.
+pub fn files_recover_or_are_refused()
+    ensures { (plan : Plan) (tag : List ℕ) (shard : Shard) (bytes : List ℕ) → length tag ≡ 8 → IsBytes bytes
+        → (bytes ≡ []) ⊎ (IsRecovered plan tag shard bytes ⊎ HasRefusal plan tag shard bytes) }
+{
+    opened_or_refused();
+    order_exists();
+    order_is_one();
+}
+
 /// The node that runs is the world's: where the turns of a server's node spell its own events in a run of the world, it has the world's
 /// state, keeps for views what the world has there and sent the world's messages; and so has a coordinator's node whose own events are those of a run.
 pub fn node_runs_are_the_world()
@@ -134,4 +160,51 @@ pub fn restarted_nodes_are_the_world()
     records_stand();
     restarts_stand();
     spelled_is_read();
+}
+
+// ---- all nodes at once
+
+/// Where the turns of all nodes are interleaved, each node by itself has a run of its own loop over the events that it takes. The network has exactly
+/// what the nodes' cores sent, and what is told are exactly the lines that the coordinators wrote.
+pub fn interleaved_runs_are_runs()
+    ensures servers { (N : AllSettings) (moves : List Move) (all : AllNodes) → AreInterleaved N moves all
+        → (shard : Shard) (n : ServerNodeState) → slice_get all.servers shard.0 ≡ Some n
+        → IsServerRun (setting_at N (node.Server shard)) shard (events_at (node.Server shard) moves) n × (messages_of (node.Server shard) all.sent ≡ n.messages) }
+    ensures coords { (N : AllSettings) (moves : List Move) (all : AllNodes) → AreInterleaved N moves all
+        → (number : ℕ) (place : CoordPlace) → slice_get all.coords number ≡ Some place
+        → IsCoordAt (setting_at N (node.Coord number)) number (N.requests number) (events_at (node.Coord number) moves) place
+        × (messages_of (node.Coord number) all.sent ≡ (node_at place).messages) × (lines_by number all.told ≡ (node_at place).lines) }
+{}
+
+/// An interleaving asks for no more than that what is taken was sent before. A datagram that spells a message to a node may come to it once the message was
+/// sent, whoever the datagram names as its sender, and again at any time. Whatever may come to a server, its node has a turn for it; a coordinator's move is
+/// computed from the event.
+pub fn caused_events_have_turns()
+    ensures spelled { (tag : List ℕ) (sent : List Envelope) (to : Node) (packet : Packet) (msg : Msg) → SpellsDelivery tag packet.bytes msg → WasSentTo sent to msg
+        → IsCaused tag sent to (took packet) }
+    ensures turns { (N : AllSettings) (moves : List Move) (all : AllNodes) → 0 < N.plan.program.shards → AreInterleaved N moves all
+        → (shard : Shard) (n : ServerNodeState) → slice_get all.servers shard.0 ≡ Some n
+        → (event : NodeEvent) → IsCaused N.tag all.sent (node.Server shard) event → (next : ServerNodeState) × AfterTurn (setting_at N (node.Server shard)) n event next }
+{
+    spelled_is_read();
+    worlds_fit();
+    events_have_outcomes();
+}
+
+/// The runs of all nodes, interleaved, are a run of the world. There are steps of the world that lead to the nodes' states, with the nodes' messages in the order
+/// in which they sent them and the history that their lines tell, in the order of the lines. Each node's own events there are those that its turns bring to its
+/// core. So all that is said of runs of the world holds of running nodes, if each message that a node takes was sent to it before.
+pub fn interleaved_nodes_are_a_world()
+    ensures { (N : AllSettings) (moves : List Move) (all : AllNodes) → AreInterleaved N moves all → (steps : List Stepped) × (w : World) × IsWorldOf N moves all steps w }
+{}
+
+/// What the coordinators' nodes write is explained by one serial order of whole procedures, in which who was answered in a line before another's submission
+/// stands before it.
+pub fn interleaved_nodes_are_serial()
+    ensures { (N : AllSettings) (moves : List Move) (all : AllNodes) → IsAccepted N.plan → AreInterleaved N moves all
+        → (order : List TxnId) × IsSerialWitness N.plan.program (history_in (map (λ t. t.1) all.told)) order }
+{
+    interleaved_nodes_are_a_world();
+    first_worlds_begin();
+    witness_is_serial();
 }
