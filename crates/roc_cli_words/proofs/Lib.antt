@@ -2,3 +2,6 @@ mod Taken
 mod Added
 mod Numbers
 mod Named
+mod Kept
+mod Several
+mod Auditing

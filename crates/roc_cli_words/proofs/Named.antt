@@ -1,29 +1,24 @@
 -- What the program makes of a command and names of files.
-use Rattle.std.proofs.Common.{◌≡◌, Bool, true, false, ◌&&◌, [], ◌∷◌, Some, None, Ok, codes, refl, bytes_eq}
+use Rattle.std.proofs.Common.{◌≡◌, Bool, true, false, ◌&&◌, [], ◌∷◌, Some, Ok, codes, refl, bytes_eq}
 use Rattle.std.proofs.lemmas.Bool.{ne_eqb}
 use Rattle.clap.specs.Words.{Text}
-use Rattle.clap.specs.Lexer.{strip_byte}
 use Rattle.clap.specs.Faults.{fault_of}
 use Rattle.clap.proofs.OnLiterals.{clap_on_literals}
 use Rattle.roc_cli_words.specs.Program.{program_app}
 use Rattle.roc_cli_words.specs.Commands.{check, print, replay, command_by}
 use Rattle.roc_cli_words.specs.Answer.{AreWordsOf, IsPlainWord}
 use Rattle.roc_cli_words.proofs.Taken.{taken}
-
--- what `clap` tests of a word that may be a name: that it is not `--`, and does not begin with a dash
-record Asked (word : Text) : Type 0 where
-  pub no_end : bytes_eq word (45 ∷ 45 ∷ []) ≡ false
-  pub no_flag : strip_byte 45 word ≡ None
+use Rattle.roc_cli_words.proofs.Several.{IsName}
 
 false_and : (b : Bool) → (false && b) ≡ false
 false_and true = refl
 false_and false = refl
 
-plain_word : (word : Text) → IsPlainWord word → Asked word
+pub plain_word : (word : Text) → IsPlainWord word → IsName word
 plain_word [] plain = absurd plain
 plain_word (b ∷ bs) plain = let no_dash = ne_eqb b 45 plain in record { no_end = rw no_dash (false_and (bytes_eq bs (45 ∷ []))); no_flag = rw no_dash }
 
-module _ (w : Text) (asked : Asked w) where
+module _ (w : Text) (asked : IsName w) where
   check_taken : fault_of program_app (codes "check" ∷ w ∷ []) ≡ []
   unfolding clap_on_literals program_app
   check_taken = simp (asked.no_end, asked.no_flag)
@@ -40,7 +35,7 @@ module _ (w : Text) (asked : Asked w) where
   unfolding clap_on_literals program_app command_by
   print_asked = simp (asked.no_end, asked.no_flag)
 
-  module _ (s : Text) (second : Asked s) where
+  module _ (s : Text) (second : IsName s) where
     replay_taken : fault_of program_app (codes "replay" ∷ w ∷ s ∷ []) ≡ []
     unfolding clap_on_literals program_app
     replay_taken = simp (asked.no_end, asked.no_flag, second.no_end, second.no_flag)

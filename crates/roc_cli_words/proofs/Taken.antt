@@ -19,7 +19,7 @@ use Rattle.roc_cli_words.specs.declared.answer.WordsFault.{WordsFault}
 use Rattle.roc_cli_words.specs.declared.answer.WordsFault.TheVariants.{Refused, Value, NoMemory}
 use Rattle.roc_cli_words.specs.declared.command.Ask.{Ask}
 use Rattle.roc_cli_words.specs.Program.{program_app, IsTakenByClap}
-use Rattle.roc_cli_words.specs.Commands.{Command, command_by, command_in, command_of}
+use Rattle.roc_cli_words.specs.Commands.{Command, command_by, command_in, command_with}
 use Rattle.roc_cli_words.specs.Answer.{AreWordsOf, AreNoCommand, HaveNoValue}
 use Rattle.roc_cli_words.specs.Inner.Parsing.{ParsesWords, IsFaultOfKind}
 
@@ -113,7 +113,7 @@ requires_one = refl
 
 all_are_ours : AllByRecursion IsOurs (built program_app).subs
 unfolding clap_on_literals program_app
-all_are_ours = ((λ r. refl), ((λ r. refl), ((λ r. refl), ((λ r. refl), ((λ r. refl), ((λ r. refl), ((λ r. refl), ((λ r. refl), tt))))))))
+all_are_ours = ((λ r. refl), ((λ r. refl), ((λ r. refl), ((λ r. refl), ((λ r. refl), ((λ r. refl), ((λ r. refl), ((λ r. refl), ((λ r. refl), tt)))))))))
 
 taken_asks : (words : List Text) → IsTakenByClap words → is_some (command_by words) ≡ true
 unfolding IsTakenByClap command_by
@@ -121,29 +121,26 @@ taken_asks words none = asks (built program_app) _ all_are_ours (enters program_
 
 -- ---- what `ask` answers
 
-abbrev commands : Option (Result Ask ValueName) → Option (Result Command ValueName)
-commands o = option_map (λ r. result_map_both command_of (λ name. name) r) o
+abbrev commands : (logs : List Text) → Option (Result Ask ValueName) → Option (Result Command ValueName)
+commands logs o = option_map (λ r. result_map_both (command_with logs) (λ name. name) r) o
 
--- what the words ask for was read off them
-asks_for : (words : List Text) (m : ArgMatches) (o : Option (Result Ask ValueName)) → ParsesWords words (Ok m) → commands o ≡ option_and_then command_in (subcommand_rows_of m)
-    → commands o ≡ command_by words
-unfolding command_by
-asks_for words m o given found = found ∙ ap (option_and_then command_in) given.1
+module _ (words : List Text) (m : ArgMatches) (logs : List Text) (o : Option (Result Ask ValueName)) (given : ParsesWords words (Ok m)) (found : commands logs o ≡ option_and_then command_in (subcommand_rows_of m)) where
+  -- what the words ask for was read off them
+  asks_for : commands logs o ≡ command_by words
+  unfolding command_by
+  asks_for = found ∙ ap (option_and_then command_in) given.1
 
-pub asked : (words : List Text) (m : ArgMatches) (o : Option (Result Ask ValueName)) (ask : Ask) → ParsesWords words (Ok m) → commands o ≡ option_and_then command_in (subcommand_rows_of m)
-    → o ≡ Some (Ok ask) → AreWordsOf words (command_of ask)
-asked words m o ask given found is = record { taken = given.0; asked = sym (asks_for words m o given found) ∙ ap commands is }
+  pub asked : (ask : Ask) → o ≡ Some (Ok ask) → AreWordsOf words (command_with logs ask)
+  asked ask is = record { taken = given.0; asked = sym asks_for ∙ ap (commands logs) is }
 
-pub no_value : (words : List Text) (m : ArgMatches) (o : Option (Result Ask ValueName)) (name : ValueName) → ParsesWords words (Ok m) → commands o ≡ option_and_then command_in (subcommand_rows_of m)
-    → o ≡ Some (Err name) → HaveNoValue words name
-no_value words m o name given found is = record { taken = given.0; asked = sym (asks_for words m o given found) ∙ ap commands is }
+  pub no_value : (name : ValueName) → o ≡ Some (Err name) → HaveNoValue words name
+  no_value name is = record { taken = given.0; asked = sym asks_for ∙ ap (commands logs) is }
 
-pub never_nothing : (words : List Text) (m : ArgMatches) (o : Option (Result Ask ValueName)) → ParsesWords words (Ok m) → commands o ≡ option_and_then command_in (subcommand_rows_of m)
-    → o ≡ None → ⊥
-never_nothing words m o given found is =
-    let nothing : is_some (command_by words) ≡ false = ap is_some (sym (asks_for words m o given found) ∙ ap commands is) in
-    let something = taken_asks words given.0 in
-    cc
+  pub never_nothing : o ≡ None → ⊥
+  never_nothing is =
+      let nothing : is_some (command_by words) ≡ false = ap is_some (sym asks_for ∙ ap (commands logs) is) in
+      let something = taken_asks words given.0 in
+      cc
 
 -- ---- what no command is asked for by
 

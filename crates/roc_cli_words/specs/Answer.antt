@@ -4,7 +4,7 @@ use Rattle.clap.specs.Words.{Text}
 use Rattle.roc_cli_words.specs.declared.value.ValueName.{ValueName}
 use Rattle.roc_cli_words.specs.declared.answer.WordsFault.{WordsFault}
 use Rattle.roc_cli_words.specs.declared.answer.WordsFault.TheVariants.{Refused, Value, NoMemory}
-use Rattle.roc_cli_words.specs.declared.command.Ask.{Ask}
+use Rattle.roc_cli_words.specs.declared.command.Asked.{Asked}
 use Rattle.roc_cli_words.specs.Program.{IsTakenByClap}
 use Rattle.roc_cli_words.specs.Commands.{Command, command_of, command_by}
 
@@ -13,7 +13,7 @@ pub record AreWordsOf (words : List Text) (command : Command) : Type 0 where
   pub taken : IsTakenByClap words
   pub asked : command_by words ≡ Some (Ok command)
 
--- `clap` takes the words, but the value of this name is none: no number, or none in its range; each before it is one
+-- `clap` takes the words, but the value of this name is none: no number, none in its range, or a log beside a journal; each before it is one
 pub record HaveNoValue (words : List Text) (name : ValueName) : Type 0 where
   pub taken : IsTakenByClap words
   pub asked : command_by words ≡ Some (Err name)
@@ -22,15 +22,15 @@ pub record HaveNoValue (words : List Text) (name : ValueName) : Type 0 where
 abbrev pub AreNoCommand : List Text → Type 0
 AreNoCommand words = (command : Command) → AreWordsOf words command → ⊥
 
-abbrev pub AnswersWords : List Text → Result Ask WordsFault → Type 0
-AnswersWords words (Ok ask) = AreWordsOf words (command_of ask)
+abbrev pub AnswersWords : List Text → Result Asked WordsFault → Type 0
+AnswersWords words (Ok asked) = AreWordsOf words (command_of asked)
 AnswersWords words (Err (Refused text)) = IsTakenByClap words → ⊥
 AnswersWords words (Err (Value name)) = HaveNoValue words name
 AnswersWords words (Err NoMemory) = Unit {0}
 
 -- whatever the fault is, but want of memory, no command is asked for
-abbrev pub RefusesWords : List Text → Result Ask WordsFault → Type 0
-RefusesWords words (Ok ask) = Unit {0}
+abbrev pub RefusesWords : List Text → Result Asked WordsFault → Type 0
+RefusesWords words (Ok asked) = Unit {0}
 RefusesWords words (Err NoMemory) = Unit {0}
 RefusesWords words (Err fault) = AreNoCommand words
 

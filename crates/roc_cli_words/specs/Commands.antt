@@ -1,49 +1,72 @@
 -- What words that `clap` takes ask for: docs/FORMATS.md, "Words"
-use Rattle.std.specs.Prelude.{ℕ, ◌≤◌, Bool, if◌then◌else◌, List, [], Option, Some, None, Result, Ok, Err, codes, bytes_eq, option_and_then, option_map, unwrap_or}
-use Rattle.clap.specs.Words.{Row, Text, first_of, subcommand_of}
+use Rattle.std.specs.Prelude.{ℕ, ◌≤◌, Bool, if◌then◌else◌, List, [], length, min, take, map, Option, Some, None, Result, Ok, Err, codes, bytes_eq, option_and_then, option_map, unwrap_or}
+use Rattle.std.specs.Option.{option_map_or}
+use Rattle.clap.specs.Words.{Row, Text, all_of, first_of, subcommand_of}
 use Rattle.roc_cli_words.specs.declared.value.ValueName.{ValueName}
 use Rattle.roc_cli_words.specs.declared.value.Part.{Part}
 use Rattle.roc_cli_words.specs.declared.command.Ask.{Ask}
+use Rattle.roc_cli_words.specs.declared.command.Asked.{Asked}
+use Rattle.roc_cli_words.specs.declared.command.LogNames.{LogNames}
 use Rattle.roc_cli_words.specs.declared.command.Serving.{Serving}
+use Rattle.roc_cli_words.specs.declared.command.Submitting.{Submitting}
 use Rattle.roc_cli_words.specs.declared.command.Ask.TheVariants as ask
 use Rattle.roc_cli_words.specs.Program.{program_app}
-use Rattle.roc_cli_words.specs.Values.{shard_in, turns_in, coord_in, seed_in, shards_in, txns_in, part_in}
+use Rattle.roc_cli_words.specs.Values.{shard_in, turns_in, coord_in, seed_in, shards_in, txns_in, part_in, log_beside}
 
 -- a command, with the names of its files and its values
 pub data Command : Type 0 where
   check : (workload : Text) → Command
   print : (workload : Text) → Command
   replay : (workload schedule : Text) → Command
-  serve : (workload cluster : Text) → (shard turns : ℕ) → (counts : Bool) → (journal : Option Text) → Command
-  submit : (workload cluster requests : Text) → (coord turns : ℕ) → Command
+  serve : (workload cluster : Text) → (shard turns : ℕ) → (counts : Bool) → (journal log : Option Text) → Command
+  submit : (workload cluster requests : Text) → (coord turns : ℕ) → (log : Option Text) → Command
   stop : (workload cluster : Text) → Command
   local : (workload cluster requests : Text) → (turns : ℕ) → Command
   gen : (seed shards txns : ℕ) → (part : Part) → Command
+  audit : (workload : Text) → (logs : List Text) → Command
 
 -- the same, as the code has it
 abbrev pub serve_command_of : Serving → Command
-serve_command_of asked = serve asked.workload.now asked.cluster.now asked.shard.0 asked.turns asked.counts (option_map (λ name. name.now) asked.journal)
+serve_command_of asked =
+    serve asked.workload.now asked.cluster.now asked.shard.0 asked.turns asked.counts (option_map (λ name. name.now) asked.journal) (option_map (λ name. name.now) asked.log)
 
-abbrev pub command_of : Ask → Command
-command_of (ask.Check workload) = check workload.now
-command_of (ask.Print workload) = print workload.now
-command_of (ask.Replay workload schedule) = replay workload.now schedule.now
-command_of (ask.Serve asked) = serve_command_of asked
-command_of (ask.Submit workload cluster requests coord turns) = submit workload.now cluster.now requests.now coord turns
-command_of (ask.Stop workload cluster) = stop workload.now cluster.now
-command_of (ask.Local workload cluster requests turns) = local workload.now cluster.now requests.now turns
-command_of (ask.Gen seed shards txns part) = gen seed shards txns part
+abbrev pub submit_command_of : Submitting → Command
+submit_command_of asked = submit asked.workload.now asked.cluster.now asked.requests.now asked.coord asked.turns (option_map (λ name. name.now) asked.log)
+
+-- how many logs may be named
+abbrev pub most_logs : ℕ
+most_logs = 80
+
+-- the names that are counted
+abbrev pub log_names : LogNames → List Text
+log_names logs = take (min logs.count most_logs) (map (λ name. name.now) logs.names)
+
+-- with the names that stand beside it
+abbrev pub command_with : (logs : List Text) → Ask → Command
+command_with logs (ask.Check workload) = check workload.now
+command_with logs (ask.Print workload) = print workload.now
+command_with logs (ask.Replay workload schedule) = replay workload.now schedule.now
+command_with logs (ask.Serve asked) = serve_command_of asked
+command_with logs (ask.Submit asked) = submit_command_of asked
+command_with logs (ask.Stop workload cluster) = stop workload.now cluster.now
+command_with logs (ask.Local workload cluster requests turns) = local workload.now cluster.now requests.now turns
+command_with logs (ask.Gen seed shards txns part) = gen seed shards txns part
+command_with logs (ask.Audit workload) = audit workload.now logs
+
+abbrev pub command_of : Asked → Command
+command_of asked = command_with (log_names asked.logs) asked.ask
 
 -- its numbers are in their ranges
 abbrev pub IsWithin : Command → Type 0
 IsWithin (check workload) = Unit {0}
 IsWithin (print workload) = Unit {0}
 IsWithin (replay workload schedule) = Unit {0}
-IsWithin (serve workload cluster shard turns counts journal) = shard ≤ 63
-IsWithin (submit workload cluster requests coord turns) = coord ≤ 15
+IsWithin (serve workload cluster shard turns counts journal log) = shard ≤ 63
+IsWithin (submit workload cluster requests coord turns log) = coord ≤ 15
 IsWithin (stop workload cluster) = Unit {0}
 IsWithin (local workload cluster requests turns) = Unit {0}
 IsWithin (gen seed shards txns part) = (1 ≤ shards) × (shards ≤ 64) × (txns ≤ 1000)
+IsWithin (audit workload logs) = length logs ≤ most_logs
 
 infixl 10 ◌>>=◌
 abbrev pub ◌>>=◌ : {A B : Type 0} → Result A ValueName → (A → Result B ValueName) → Result B ValueName
@@ -56,11 +79,12 @@ text_in name rows = unwrap_or (first_of name rows) []
 
 abbrev pub serve_in : List Row → Result Command ValueName
 serve_in rows = shard_in (text_in (codes "shard") rows) >>= λ shard. turns_in (text_in (codes "turns") rows) >>= λ turns.
-    Ok (serve (text_in (codes "workload") rows) (text_in (codes "cluster") rows) shard turns (bytes_eq (text_in (codes "counts") rows) (codes "true")) (first_of (codes "journal") rows))
+    log_beside (first_of (codes "journal") rows) (first_of (codes "log") rows) >>= λ log.
+    Ok (serve (text_in (codes "workload") rows) (text_in (codes "cluster") rows) shard turns (bytes_eq (text_in (codes "counts") rows) (codes "true")) (first_of (codes "journal") rows) log)
 
 abbrev pub submit_in : List Row → Result Command ValueName
 submit_in rows = coord_in (text_in (codes "coord") rows) >>= λ coord. turns_in (text_in (codes "turns") rows) >>= λ turns.
-    Ok (submit (text_in (codes "workload") rows) (text_in (codes "cluster") rows) (text_in (codes "requests") rows) coord turns)
+    Ok (submit (text_in (codes "workload") rows) (text_in (codes "cluster") rows) (text_in (codes "requests") rows) coord turns (first_of (codes "log") rows))
 
 abbrev pub local_in : List Row → Result Command ValueName
 local_in rows = turns_in (text_in (codes "turns") rows) >>= λ turns.
@@ -69,6 +93,13 @@ local_in rows = turns_in (text_in (codes "turns") rows) >>= λ turns.
 abbrev pub gen_in : List Row → Result Command ValueName
 gen_in rows = seed_in (text_in (codes "seed") rows) >>= λ seed. shards_in (text_in (codes "shards") rows) >>= λ shards.
     txns_in (text_in (codes "txns") rows) >>= λ txns. part_in (text_in (codes "part") rows) >>= λ part. Ok (gen seed shards txns part)
+
+-- the logs, in the order of the words; `clap` takes no words with more
+abbrev pub logs_in : List Row → List Text
+logs_in rows = take most_logs (unwrap_or (all_of (codes "logs") rows) [])
+
+abbrev pub audit_in : List Row → Command
+audit_in rows = audit (text_in (codes "workload") rows) (logs_in rows)
 
 -- what a subcommand asks for, by its name and what was given to it: a command, or its first value that is none
 abbrev pub command_in : Text × List Row → Option (Result Command ValueName)
@@ -80,7 +111,12 @@ command_in p = if bytes_eq p.0 (codes "check") then Some (Ok (check (text_in (co
     else if bytes_eq p.0 (codes "stop") then Some (Ok (stop (text_in (codes "workload") p.1) (text_in (codes "cluster") p.1)))
     else if bytes_eq p.0 (codes "local") then Some (local_in p.1)
     else if bytes_eq p.0 (codes "gen") then Some (gen_in p.1)
+    else if bytes_eq p.0 (codes "audit") then Some (Ok (audit_in p.1))
     else None
+
+-- the logs among what was given to a subcommand
+abbrev pub logs_by : Option (Text × List Row) → List Text
+logs_by given = option_map_or (λ p. logs_in p.1) given []
 
 -- what the words ask for, where `clap` takes them
 unfoldable pub command_by : List Text → Option (Result Command ValueName)

@@ -1,7 +1,7 @@
--- What is printed for a value that is none: its name, as it stands on the command line, and what it may be
+-- What is printed for a value that is none: its name, as it stands on the command line, and what it may be; of a log, which may have any name, its name alone
 use Rattle.std.specs.Prelude.{List, ℕ, codes}
 use Rattle.roc_cli_words.specs.declared.value.ValueName.{ValueName}
-use Rattle.roc_cli_words.specs.declared.value.ValueName.TheVariants.{Shard, Turns, Coord, Seed, Shards, Txns, Part}
+use Rattle.roc_cli_words.specs.declared.value.ValueName.TheVariants.{Shard, Turns, Coord, Seed, Shards, Txns, Part, Log}
 
 abbrev pub value_text : ValueName → List ℕ
 value_text Shard = codes "shard: 0 to 63"
@@ -11,3 +11,4 @@ value_text Seed = codes "seed: 0 to 18446744073709551615"
 value_text Shards = codes "shards: 1 to 64"
 value_text Txns = codes "txns: 1 to 1000"
 value_text Part = codes "part: workload, schedule or run"
+value_text Log = codes "log"

@@ -47,3 +47,8 @@ part_in text =
     else if bytes_eq text (codes "schedule") then Ok Schedule
     else if bytes_eq text (codes "run") then Ok Run
     else Err name.Part
+
+-- a log, where no journal is named
+abbrev pub log_beside : (journal log : Option (List ℕ)) → Result (Option (List ℕ)) ValueName
+log_beside (Some journal) (Some log) = Err name.Log
+log_beside journal log = Ok log

@@ -5,7 +5,7 @@ ghost use Rattle.roc_cli_words.specs.Answer.{AnswersWords, RefusesWords};
 ghost use Rattle.roc_cli_words.specs.Commands.{IsWithin, command_of};
 ghost use Rattle.roc_cli_words.specs.Inner.Parsing.{IsFaultOfKind, ParsesWords};
 
-use crate::command::{Ask, asked_by};
+use crate::command::{Asked, asked_by, logs_by};
 use crate::program::program;
 use crate::value::ValueName;
 use clap::error::ErrorKind;
@@ -23,6 +23,7 @@ Commands:
   stop    stops the servers of a cluster
   local   starts the servers of a cluster, submits requests, and stops the servers
   gen     writes a generated workload, its schedule, or what comes of its run
+  audit   judges the logs of nodes by one serial order, and writes it
 ";
 
 /// Why words ask for nothing.
@@ -30,7 +31,7 @@ Commands:
 pub enum WordsFault {
     /// `clap` refuses them, with this text, in lines.
     Refused(String),
-    /// This value is no number, or none in its range; of several the first that is judged.
+    /// This value is no number, or none in its range, or a log beside a journal; of several the first that is judged.
     Value(ValueName),
     /// There is no memory.
     NoMemory,
@@ -62,17 +63,20 @@ fn parsed<'a>(alloc: Global, words: &'a [String]) -> Result<ArgMatches<'a>, Word
 }
 
 /// What the words behind the program's name ask for. The names of files are parts of the words.
-pub fn ask<'a>(alloc: Global, words: &'a [String]) -> Result<Ask<'a>, WordsFault>
+pub fn ask<'a>(alloc: Global, words: &'a [String]) -> Result<Asked<'a>, WordsFault>
     ensures answers { AnswersWords (map string_bytes words.entry.now) result }
     ensures refuses { RefusesWords (map string_bytes words.entry.now) result }
-    ensures within { IfOk result (λ ask. IsWithin (command_of ask)) }
+    ensures within { IfOk result (λ asked. IsWithin (command_of asked)) }
 {
     let matches = match parsed(alloc, words) {
         Ok(matches) => matches,
         Err(fault) => return Err(fault),
     };
     match asked_by(&matches) {
-        Some(Ok(ask)) => Ok(ask),
+        Some(Ok(ask)) => Ok(Asked {
+            ask,
+            logs: logs_by(&matches),
+        }),
         Some(Err(name)) => Err(WordsFault::Value(name)),
         None => unreachable!(),
     }

@@ -1,17 +1,17 @@
 //! What words ask for.
-ghost use Rattle.std.specs.Prelude.{◌≡◌, IfOk, IfSome, option_and_then, option_map};
+ghost use Rattle.std.specs.Prelude.{◌≡◌, ◌≤◌, ℕ, List, [], length, map, take, IfOk, IfSome, option_and_then, option_map, unwrap_or};
 ghost use Rattle.std.specs.Result.{result_map_both};
-ghost use Rattle.clap.specs.Words.{first_of, found_of, rows_of, subcommand_rows_of};
-ghost use Rattle.roc_cli_words.specs.Commands.{IsWithin, command_in, command_of, gen_in, local_in, serve_in, submit_in, text_in};
+ghost use Rattle.clap.specs.Words.{Text, first_of, found_of, rows_of, subcommand_rows_of};
+ghost use Rattle.roc_cli_words.specs.Commands.{IsWithin, command_in, command_with, gen_in, local_in, logs_by, logs_in, most_logs, log_names, serve_in, submit_in, text_in};
 
 use crate::value::{
-    Part, ValueName, coord_in, part_in, seed_in, shard_in, shards_in, turns_in, txns_in,
+    Part, ValueName, coord_in, log_beside, part_in, seed_in, shard_in, shards_in, turns_in, txns_in,
 };
 use clap::ArgMatches;
 use roc_base::Shard;
 
 /// How a shard is to be served: for so many turns, and in the end it is written, if so asked, how many datagrams and messages were refused
-/// and why. With a journal the server begins with what that gives, and keeps there what it takes.
+/// and why. With a journal the server begins with what that gives, and keeps there what it takes. With a log it tells there what it does.
 #[derive(Clone, Copy)]
 pub struct Serving<'a> {
     pub workload: &'a str,
@@ -20,6 +20,18 @@ pub struct Serving<'a> {
     pub turns: u32,
     pub counts: bool,
     pub journal: Option<&'a str>,
+    pub log: Option<&'a str>,
+}
+
+/// How requests are to be submitted: as this coordinator, for so many turns, and with a log it tells there what it does.
+#[derive(Clone, Copy)]
+pub struct Submitting<'a> {
+    pub workload: &'a str,
+    pub cluster: &'a str,
+    pub requests: &'a str,
+    pub coord: u16,
+    pub turns: u32,
+    pub log: Option<&'a str>,
 }
 
 /// What words ask for: a command, with the names of its files and its values, each in its range.
@@ -40,14 +52,8 @@ pub enum Ask<'a> {
     },
     /// To serve a shard.
     Serve(Serving<'a>),
-    /// To submit each request as this coordinator, for so many turns.
-    Submit {
-        workload: &'a str,
-        cluster: &'a str,
-        requests: &'a str,
-        coord: u16,
-        turns: u32,
-    },
+    /// To submit each request.
+    Submit(Submitting<'a>),
     /// To stop the server of each shard.
     Stop {
         workload: &'a str,
@@ -67,6 +73,35 @@ pub enum Ask<'a> {
         txns: u16,
         part: Part,
     },
+    /// To judge the logs that are named beside this, against the workload.
+    Audit {
+        workload: &'a str,
+    },
+}
+
+/// The names of logs, at most 80, in the order of the words.
+#[derive(Clone, Copy)]
+pub struct LogNames<'a> {
+    /// The names, and behind them what stands for none.
+    pub names: [&'a str; 80],
+    /// How many of them are names.
+    pub count: u8,
+}
+
+impl<'a> LogNames<'a> {
+    /// The names alone.
+    pub fn as_slice(&self) -> &[&'a str]
+        ensures { map (λ name. name.now) result.now ≡ log_names self.now }
+    {
+        &self.names[..usize::from(self.count).min(80)]
+    }
+}
+
+/// What words ask for, and the logs that they name. The names stand beside the command and not in it, since a variant may hold no array of names.
+#[derive(Clone, Copy)]
+pub struct Asked<'a> {
+    pub ask: Ask<'a>,
+    pub logs: LogNames<'a>,
 }
 
 // What was given for a name. `clap` takes no words in which it is missing.
@@ -87,38 +122,43 @@ fn choice_in<'a>(given: &ArgMatches<'a>, name: &str) -> Option<&'a str>
 }
 
 fn serve_in<'a>(given: &ArgMatches<'a>) -> Result<Ask<'a>, ValueName>
-    ensures command { result_map_both command_of (λ name. name) result ≡ serve_in (rows_of (found_of given.now)) }
-    ensures within { IfOk result (λ ask. IsWithin (command_of ask)) }
+    ensures command { result_map_both (command_with (logs_in (rows_of (found_of given.now)))) (λ name. name) result ≡ serve_in (rows_of (found_of given.now)) }
+    ensures within { (logs : List Text) → IfOk result (λ ask. IsWithin (command_with logs ask)) }
 {
     let shard = shard_in(text_in(given, "shard"))?;
     let turns = turns_in(text_in(given, "turns"))?;
+    let journal = choice_in(given, "journal");
+    let log = log_beside(journal, choice_in(given, "log"))?;
     Ok(Ask::Serve(Serving {
         workload: text_in(given, "workload"),
         cluster: text_in(given, "cluster"),
         shard,
         turns,
         counts: text_in(given, "counts") == "true",
-        journal: choice_in(given, "journal"),
+        journal,
+        log,
     }))
 }
 
 fn submit_in<'a>(given: &ArgMatches<'a>) -> Result<Ask<'a>, ValueName>
-    ensures command { result_map_both command_of (λ name. name) result ≡ submit_in (rows_of (found_of given.now)) }
-    ensures within { IfOk result (λ ask. IsWithin (command_of ask)) }
+    ensures command { result_map_both (command_with (logs_in (rows_of (found_of given.now)))) (λ name. name) result ≡ submit_in (rows_of (found_of given.now)) }
+    ensures within { (logs : List Text) → IfOk result (λ ask. IsWithin (command_with logs ask)) }
 {
     let coord = coord_in(text_in(given, "coord"))?;
     let turns = turns_in(text_in(given, "turns"))?;
-    Ok(Ask::Submit {
+    Ok(Ask::Submit(Submitting {
         workload: text_in(given, "workload"),
         cluster: text_in(given, "cluster"),
         requests: text_in(given, "requests"),
         coord,
         turns,
-    })
+        log: choice_in(given, "log"),
+    }))
 }
 
 fn local_in<'a>(given: &ArgMatches<'a>) -> Result<Ask<'a>, ValueName>
-    ensures { result_map_both command_of (λ name. name) result ≡ local_in (rows_of (found_of given.now)) }
+    ensures command { result_map_both (command_with (logs_in (rows_of (found_of given.now)))) (λ name. name) result ≡ local_in (rows_of (found_of given.now)) }
+    ensures within { (logs : List Text) → IfOk result (λ ask. IsWithin (command_with logs ask)) }
 {
     let turns = turns_in(text_in(given, "turns"))?;
     Ok(Ask::Local {
@@ -130,8 +170,8 @@ fn local_in<'a>(given: &ArgMatches<'a>) -> Result<Ask<'a>, ValueName>
 }
 
 fn gen_in<'a>(given: &ArgMatches<'a>) -> Result<Ask<'a>, ValueName>
-    ensures command { result_map_both command_of (λ name. name) result ≡ gen_in (rows_of (found_of given.now)) }
-    ensures within { IfOk result (λ ask. IsWithin (command_of ask)) }
+    ensures command { result_map_both (command_with (logs_in (rows_of (found_of given.now)))) (λ name. name) result ≡ gen_in (rows_of (found_of given.now)) }
+    ensures within { (logs : List Text) → IfOk result (λ ask. IsWithin (command_with logs ask)) }
 {
     Ok(Ask::Gen {
         seed: seed_in(text_in(given, "seed"))?,
@@ -141,10 +181,44 @@ fn gen_in<'a>(given: &ArgMatches<'a>) -> Result<Ask<'a>, ValueName>
     })
 }
 
+// No names.
+fn no_names<'a>() -> LogNames<'a>
+    ensures { log_names result ≡ [] }
+{
+    LogNames {
+        names: [""; 80],
+        count: 0,
+    }
+}
+
+// The logs, in the order of the words.
+fn logs_in<'a>(given: &ArgMatches<'a>) -> LogNames<'a>
+    ensures { log_names result ≡ logs_in (rows_of (found_of given.now)) }
+{
+    match given.get_strs("logs") {
+        Some(found) => first_names(found),
+        None => no_names(),
+    }
+}
+
+// The first 80 of these.
+fn first_names<'a>(found: &[&'a str]) -> LogNames<'a>
+    ensures { log_names result ≡ take most_logs (map (λ name. name.now) found.now) }
+{
+    let count = found.len().min(80);
+    let mut names = [""; 80];
+    names[..count].copy_from_slice(&found[..count]);
+    LogNames {
+        names,
+        count: count as u8,
+    }
+}
+
 // What a subcommand of this name asks for.
 fn command_in<'a>(name: &str, given: &ArgMatches<'a>) -> Option<Result<Ask<'a>, ValueName>>
-    ensures command { option_map (λ r. result_map_both command_of (λ name. name) r) result ≡ command_in (name.now, rows_of (found_of given.now)) }
-    ensures within { IfSome result (λ r. IfOk r (λ ask. IsWithin (command_of ask))) }
+    ensures command { option_map (λ r. result_map_both (command_with (logs_in (rows_of (found_of given.now)))) (λ name. name) r) result
+        ≡ command_in (name.now, rows_of (found_of given.now)) }
+    ensures within { (logs : List Text) → length logs ≤ most_logs → IfSome result (λ r. IfOk r (λ ask. IsWithin (command_with logs ask))) }
 {
     let workload = text_in(given, "workload");
     match name {
@@ -162,6 +236,7 @@ fn command_in<'a>(name: &str, given: &ArgMatches<'a>) -> Option<Result<Ask<'a>, 
         })),
         "local" => Some(local_in(given)),
         "gen" => Some(gen_in(given)),
+        "audit" => Some(Ok(Ask::Audit { workload })),
         _ => None,
     }
 }
@@ -173,11 +248,23 @@ fn entered<'m, 'a>(matches: &'m ArgMatches<'a>) -> Option<(&'a str, &'m ArgMatch
     matches.subcommand()
 }
 
-/// What the words ask for that were parsed so.
+/// What the words ask for that were parsed so, but for the logs that they name.
 pub(crate) fn asked_by<'a>(matches: &ArgMatches<'a>) -> Option<Result<Ask<'a>, ValueName>>
-    ensures command { option_map (λ r. result_map_both command_of (λ name. name) r) result ≡ option_and_then command_in (subcommand_rows_of matches.now) }
-    ensures within { IfSome result (λ r. IfOk r (λ ask. IsWithin (command_of ask))) }
+    ensures command { option_map (λ r. result_map_both (command_with (logs_by (subcommand_rows_of matches.now))) (λ name. name) r) result
+        ≡ option_and_then command_in (subcommand_rows_of matches.now) }
+    ensures within { (logs : List Text) → length logs ≤ most_logs → IfSome result (λ r. IfOk r (λ ask. IsWithin (command_with logs ask))) }
 {
     let (name, given) = entered(matches)?;
     command_in(name, given)
+}
+
+/// The logs that they name.
+pub(crate) fn logs_by<'a>(matches: &ArgMatches<'a>) -> LogNames<'a>
+    ensures names { log_names result ≡ logs_by (subcommand_rows_of matches.now) }
+    ensures few { length (log_names result) ≤ most_logs }
+{
+    match entered(matches) {
+        Some((_, given)) => logs_in(given),
+        None => no_names(),
+    }
 }

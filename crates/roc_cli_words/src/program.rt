@@ -2,8 +2,8 @@
 ghost use Rattle.std.specs.Prelude.{◌≡◌, IfOk, false, codes};
 ghost use Rattle.clap.specs.Words.{App, Rule, app_of, rule_of, with_rule, with_subcommand};
 ghost use Rattle.roc_cli_words.specs.Inner.Building.{IsSoFar};
-ghost use Rattle.roc_cli_words.specs.Program.{standing_rule, named_rule, flag_rule, choice_rule};
-ghost use Rattle.roc_cli_words.specs.Program.{workload_app, replay_app, cluster_app, serve_app, submit_app, local_app, gen_app, bare_app, program_app};
+ghost use Rattle.roc_cli_words.specs.Program.{standing_rule, named_rule, flag_rule, choice_rule, many_rule};
+ghost use Rattle.roc_cli_words.specs.Program.{workload_app, replay_app, cluster_app, serve_app, submit_app, local_app, gen_app, audit_app, bare_app, program_app};
 
 use clap::{Arg, ArgAction, Command};
 use std::alloc::{AllocError, Global};
@@ -41,6 +41,14 @@ fn choice<'a>(alloc: Global, name: &'a str) -> Arg<'a>
     ensures local { result.global ≡ false }
 {
     Arg::new(alloc, name).action(ArgAction::Set).long(name)
+}
+
+// Words of which one must stand and 80 may.
+fn many<'a>(alloc: Global, name: &'a str) -> Arg<'a>
+    ensures rule { rule_of result ≡ many_rule name.entry.now }
+    ensures local { result.global ≡ false }
+{
+    standing(alloc, name).num_args(1..=80)
 }
 
 // A command with one more argument, where the command was made.
@@ -84,7 +92,8 @@ fn serve_command<'a>(alloc: Global) -> Result<Command<'a>, AllocError>
     let command = with(command, named(alloc, "shard"));
     let command = with(command, named(alloc, "turns"));
     let command = with(command, flag(alloc, "counts"));
-    with(command, choice(alloc, "journal"))
+    let command = with(command, choice(alloc, "journal"));
+    with(command, choice(alloc, "log"))
 }
 
 fn submit_command<'a>(alloc: Global) -> Result<Command<'a>, AllocError>
@@ -93,7 +102,8 @@ fn submit_command<'a>(alloc: Global) -> Result<Command<'a>, AllocError>
     let command = cluster_command(alloc, "submit");
     let command = with(command, standing(alloc, "requests"));
     let command = with(command, named(alloc, "coord"));
-    with(command, named(alloc, "turns"))
+    let command = with(command, named(alloc, "turns"));
+    with(command, choice(alloc, "log"))
 }
 
 fn local_command<'a>(alloc: Global) -> Result<Command<'a>, AllocError>
@@ -111,6 +121,13 @@ fn gen_command<'a>(alloc: Global) -> Result<Command<'a>, AllocError>
     let command = with(command, standing(alloc, "shards"));
     let command = with(command, standing(alloc, "txns"));
     with(command, standing(alloc, "part"))
+}
+
+fn audit_command<'a>(alloc: Global) -> Result<Command<'a>, AllocError>
+    ensures { IfOk result (λ c. IsSoFar c audit_app) }
+{
+    let command = workload_command(alloc, "audit");
+    with(command, many(alloc, "logs"))
 }
 
 fn bare_command<'a>(alloc: Global) -> Command<'a>
@@ -173,12 +190,12 @@ pub(crate) fn program<'a>(alloc: Global) -> Result<Command<'a>, AllocError>
     let program = joined(program, replay);
     let serve = used_as(
         serve_command(alloc),
-        "rococo serve WORKLOAD CLUSTER --shard N --turns T [--counts] [--journal FILE]",
+        "rococo serve WORKLOAD CLUSTER --shard N --turns T [--counts] [--journal FILE] [--log FILE]",
     );
     let program = joined(program, serve);
     let submit = used_as(
         submit_command(alloc),
-        "rococo submit WORKLOAD CLUSTER REQUESTS --coord C --turns T",
+        "rococo submit WORKLOAD CLUSTER REQUESTS --coord C --turns T [--log FILE]",
     );
     let program = joined(program, submit);
     let stop = used_as(
@@ -192,5 +209,7 @@ pub(crate) fn program<'a>(alloc: Global) -> Result<Command<'a>, AllocError>
     );
     let program = joined(program, local);
     let load = used_as(gen_command(alloc), "rococo gen SEED SHARDS TXNS PART");
-    joined(program, load)
+    let program = joined(program, load);
+    let audit = used_as(audit_command(alloc), "rococo audit WORKLOAD LOGS..");
+    joined(program, audit)
 }

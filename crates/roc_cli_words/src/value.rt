@@ -1,10 +1,10 @@
 //! The values among the words.
-ghost use Rattle.std.specs.Prelude.{◌≡◌, ◌≤◌, IfSome, IfOk, Some};
+ghost use Rattle.std.specs.Prelude.{◌≡◌, ◌≤◌, IfSome, IfOk, Some, option_map};
 ghost use Rattle.std.specs.Result.{result_map_both};
 ghost use Rattle.std.specs.List.{list_all};
 ghost use Rattle.std.specs.Char.{is_ascii_digit};
 ghost use Rattle.roc_cli_words.specs.FaultText.{value_text};
-ghost use Rattle.roc_cli_words.specs.Values.{is_plain_number, number_within, shard_in, turns_in, coord_in, seed_in, shards_in, txns_in, part_in};
+ghost use Rattle.roc_cli_words.specs.Values.{is_plain_number, number_within, shard_in, turns_in, coord_in, seed_in, shards_in, txns_in, part_in, log_beside};
 
 use roc_base::Shard;
 use std::fmt;
@@ -26,6 +26,8 @@ pub enum ValueName {
     Txns,
     /// What to generate: `workload`, `schedule` or `run`.
     Part,
+    /// The log to keep, which stands beside no journal.
+    Log,
 }
 
 /// What to generate.
@@ -52,6 +54,7 @@ impl ValueName {
             ValueName::Shards => "shards: 1 to 64",
             ValueName::Txns => "txns: 1 to 1000",
             ValueName::Part => "part: workload, schedule or run",
+            ValueName::Log => "log",
         }
     }
 }
@@ -171,5 +174,19 @@ pub(crate) fn part_in(text: &str) -> Result<Part, ValueName>
         "schedule" => Ok(Part::Schedule),
         "run" => Ok(Part::Run),
         _ => Err(ValueName::Part),
+    }
+}
+
+/// The log to keep, where it stands beside no journal.
+pub(crate) fn log_beside<'a>(
+    journal: Option<&'a str>,
+    log: Option<&'a str>,
+) -> Result<Option<&'a str>, ValueName>
+    ensures { result_map_both (λ kept. option_map (λ text. text.now) kept) (λ name. name) result
+        ≡ log_beside (option_map (λ text. text.now) journal.entry) (option_map (λ text. text.now) log.entry) }
+{
+    match (journal, log) {
+        (Some(_), Some(_)) => Err(ValueName::Log),
+        _ => Ok(log),
     }
 }

@@ -1,6 +1,6 @@
 //! Lines of words, and what they ask for.
 use roc_base::Shard;
-use roc_cli_words::{Ask, Part, Serving, ValueName, WordsFault, ask};
+use roc_cli_words::{Ask, Asked, Part, Serving, Submitting, ValueName, WordsFault, ask};
 use std::alloc::{AllocError, Global};
 use std::process::Abort;
 use std::test::Fail;
@@ -21,6 +21,17 @@ fn is_served_alike(one: Serving, other: Serving) -> bool {
         && one.turns == other.turns
         && one.counts == other.counts
         && one.journal == other.journal
+        && one.log == other.log
+}
+
+// Whether requests are to be submitted in one way.
+fn is_submitted_alike(one: Submitting, other: Submitting) -> bool {
+    one.workload == other.workload
+        && one.cluster == other.cluster
+        && one.requests == other.requests
+        && one.coord == other.coord
+        && one.turns == other.turns
+        && one.log == other.log
 }
 
 // Whether two commands are one, with the same names and values.
@@ -35,16 +46,7 @@ fn is_same(one: Ask, other: Ask) -> bool {
             matches!(other, Ask::Replay { workload, schedule } if workload == w && schedule == s)
         }
         Ask::Serve(own) => matches!(other, Ask::Serve(asked) if is_served_alike(own, asked)),
-        Ask::Submit {
-            workload: w,
-            cluster: c,
-            requests: r,
-            coord: n,
-            turns: t,
-        } => {
-            matches!(other, Ask::Submit { workload, cluster, requests, coord, turns }
-                if workload == w && cluster == c && requests == r && coord == n && turns == t)
-        }
+        Ask::Submit(own) => matches!(other, Ask::Submit(asked) if is_submitted_alike(own, asked)),
         Ask::Stop {
             workload: w,
             cluster: c,
@@ -67,6 +69,7 @@ fn is_same(one: Ask, other: Ask) -> bool {
             matches!(other, Ask::Gen { seed, shards, txns, part }
                 if seed == a && shards == n && txns == m && part == p)
         }
+        Ask::Audit { workload: w } => matches!(other, Ask::Audit { workload } if workload == w),
     }
 }
 
@@ -74,7 +77,7 @@ fn are_asked(rt: &impl Abort, alloc: Global, cases: &[(&[&str], Ask)]) -> Result
     for (words, wanted) in cases {
         let given = given(alloc, words)?;
         match ask(alloc, &given) {
-            Ok(found) => assert!(rt; is_same(found, *wanted)),
+            Ok(found) => assert!(rt; is_same(found.ask, *wanted)),
             Err(_) => panic!(rt; "no command"),
         }
     }
@@ -83,7 +86,7 @@ fn are_asked(rt: &impl Abort, alloc: Global, cases: &[(&[&str], Ask)]) -> Result
 
 #[test]
 fn words_of_commands_ask_for_them(rt: HostRuntime) -> Result<(), Fail> {
-    let cases: [(&[&str], Ask); 9] = [
+    let cases: [(&[&str], Ask); 8] = [
         (&["check", "w"], Ask::Check { workload: "w" }),
         (&["print", "w"], Ask::Print { workload: "w" }),
         (
@@ -91,16 +94,6 @@ fn words_of_commands_ask_for_them(rt: HostRuntime) -> Result<(), Fail> {
             Ask::Replay {
                 workload: "w",
                 schedule: "s",
-            },
-        ),
-        (
-            &["submit", "w", "c", "r", "--coord", "15", "--turns", "1"],
-            Ask::Submit {
-                workload: "w",
-                cluster: "c",
-                requests: "r",
-                coord: 15,
-                turns: 1,
             },
         ),
         (
@@ -163,6 +156,7 @@ fn words_of_a_server_ask_for_it(rt: HostRuntime) -> Result<(), Fail> {
                 turns: 4_294_967_295,
                 counts: false,
                 journal: None,
+                log: None,
             }),
         ),
         (
@@ -184,10 +178,77 @@ fn words_of_a_server_ask_for_it(rt: HostRuntime) -> Result<(), Fail> {
                 turns: 10,
                 counts: true,
                 journal: Some("j"),
+                log: None,
             }),
         ),
     ];
     are_asked(&rt, rt.alloc(), &cases)?;
+    Ok(())
+}
+
+#[test]
+fn words_of_a_coordinator_ask_for_it(rt: HostRuntime) -> Result<(), Fail> {
+    let cases: [(&[&str], Ask); 2] = [
+        (
+            &["submit", "w", "c", "r", "--coord", "15", "--turns", "1"],
+            Ask::Submit(Submitting {
+                workload: "w",
+                cluster: "c",
+                requests: "r",
+                coord: 15,
+                turns: 1,
+                log: None,
+            }),
+        ),
+        (
+            &[
+                "submit", "--log=l", "w", "c", "--coord", "0", "--turns", "2", "r",
+            ],
+            Ask::Submit(Submitting {
+                workload: "w",
+                cluster: "c",
+                requests: "r",
+                coord: 0,
+                turns: 2,
+                log: Some("l"),
+            }),
+        ),
+    ];
+    are_asked(&rt, rt.alloc(), &cases)?;
+    Ok(())
+}
+
+fn are_names(logs: &[&str], wanted: &[&str]) -> bool {
+    logs == wanted
+}
+
+// Whether it is asked for an audit of exactly these logs.
+fn is_audit(asked: &Asked, wanted: &[&str]) -> bool {
+    match asked.ask {
+        Ask::Audit { workload } => workload == "w" && are_names(asked.logs.as_slice(), wanted),
+        _ => false,
+    }
+}
+
+fn audits(alloc: Global, words: &[&str], wanted: &[&str]) -> Result<bool, AllocError> {
+    let given = given(alloc, words)?;
+    match ask(alloc, &given) {
+        Ok(found) => Ok(is_audit(&found, wanted)),
+        Err(_) => Ok(false),
+    }
+}
+
+#[test]
+fn words_of_an_audit_name_its_logs(rt: HostRuntime) -> Result<(), Fail> {
+    let alloc = rt.alloc();
+    assert!(rt; audits(alloc, &["audit", "w", "a"], &["a"])?);
+    assert!(rt;
+        audits(
+            alloc,
+            &["audit", "w", "b", "--", "-a", "b"],
+            &["b", "-a", "b"]
+        )?
+    );
     Ok(())
 }
 
@@ -204,7 +265,7 @@ fn are_refused(rt: &impl Abort, alloc: Global, cases: &[&[&str]]) -> Result<(), 
 
 #[test]
 fn other_words_are_refused(rt: HostRuntime) -> Result<(), Fail> {
-    let cases: [&[&str]; 14] = [
+    let cases: [&[&str]; 17] = [
         &[],
         &["run", "w"],
         &["--help"],
@@ -219,6 +280,9 @@ fn other_words_are_refused(rt: HostRuntime) -> Result<(), Fail> {
         &["serve", "w", "c", "--shard", "1", "--turns"],
         &["serve", "w", "c", "--shard=1", "--turns=1", "--journal"],
         &["print", "w", "--turns", "1"],
+        &["audit", "w"],
+        &["audit", "w", "a", "--log", "l"],
+        &["stop", "w", "c", "--log", "l"],
     ];
     are_refused(&rt, rt.alloc(), &cases)?;
     Ok(())
@@ -239,36 +303,67 @@ fn are_no_values(
     Ok(())
 }
 
+// Words with a value that is none.
+const NO_VALUES: [(&[&str], ValueName); 15] = [
+    (&["local", "w", "c", "r", "--turns", "0"], ValueName::Turns),
+    (
+        &["local", "w", "c", "r", "--turns", "007"],
+        ValueName::Turns,
+    ),
+    (&["local", "w", "c", "r", "--turns", "+5"], ValueName::Turns),
+    (
+        &["local", "w", "c", "r", "--turns", "4294967296"],
+        ValueName::Turns,
+    ),
+    (
+        &["local", "w", "c", "r", "--turns", "18446744073709551616"],
+        ValueName::Turns,
+    ),
+    (&["local", "w", "c", "r", "--turns=-1"], ValueName::Turns),
+    (
+        &["serve", "w", "c", "--turns", "0", "--shard", "64"],
+        ValueName::Shard,
+    ),
+    (
+        &["submit", "w", "c", "r", "--coord", "16", "--turns", "1"],
+        ValueName::Coord,
+    ),
+    (
+        &["gen", "18446744073709551616", "1", "1", "run"],
+        ValueName::Seed,
+    ),
+    (&["gen", "0", "0", "1", "run"], ValueName::Shards),
+    (&["gen", "0", "65", "1", "run"], ValueName::Shards),
+    (&["gen", "0", "1", "1001", "run"], ValueName::Txns),
+    (&["gen", "0", "1", "1", "all"], ValueName::Part),
+    (
+        &[
+            "serve",
+            "w",
+            "c",
+            "--shard=1",
+            "--turns=0",
+            "--journal=j",
+            "--log=l",
+        ],
+        ValueName::Turns,
+    ),
+    (
+        &[
+            "serve",
+            "w",
+            "c",
+            "--shard=1",
+            "--turns=1",
+            "--log=l",
+            "--journal=j",
+        ],
+        ValueName::Log,
+    ),
+];
+
 #[test]
 fn values_have_their_ranges(rt: HostRuntime) -> Result<(), Fail> {
-    let turns = ValueName::Turns;
-    let cases: [(&[&str], ValueName); 13] = [
-        (&["local", "w", "c", "r", "--turns", "0"], turns),
-        (&["local", "w", "c", "r", "--turns", "007"], turns),
-        (&["local", "w", "c", "r", "--turns", "+5"], turns),
-        (&["local", "w", "c", "r", "--turns", "4294967296"], turns),
-        (
-            &["local", "w", "c", "r", "--turns", "18446744073709551616"],
-            turns,
-        ),
-        (&["local", "w", "c", "r", "--turns=-1"], turns),
-        (
-            &["serve", "w", "c", "--turns", "0", "--shard", "64"],
-            ValueName::Shard,
-        ),
-        (
-            &["submit", "w", "c", "r", "--coord", "16", "--turns", "1"],
-            ValueName::Coord,
-        ),
-        (
-            &["gen", "18446744073709551616", "1", "1", "run"],
-            ValueName::Seed,
-        ),
-        (&["gen", "0", "0", "1", "run"], ValueName::Shards),
-        (&["gen", "0", "65", "1", "run"], ValueName::Shards),
-        (&["gen", "0", "1", "1001", "run"], ValueName::Txns),
-        (&["gen", "0", "1", "1", "all"], ValueName::Part),
-    ];
-    are_no_values(&rt, rt.alloc(), &cases)?;
+    are_no_values(&rt, rt.alloc(), &NO_VALUES)?;
     Ok(())
 }

@@ -12,4 +12,5 @@ returns c =
     let fifth = c.joined-program-4.ensures _ _ fourth (c.used_as-submit.ensures _ c.submit_command.ensures) in
     let sixth = c.joined-program-5.ensures _ _ fifth (c.used_as-stop.ensures _ c.cluster_command.ensures) in
     let seventh = c.joined-program-6.ensures _ _ sixth (c.used_as-local.ensures _ c.local_command.ensures) in
-    c.joined.ensures _ _ seventh (c.used_as-load.ensures _ c.gen_command.ensures)
+    let eighth = c.joined-program-7.ensures _ _ seventh (c.used_as-load.ensures _ c.gen_command.ensures) in
+    c.joined.ensures _ _ eighth (c.used_as-audit.ensures _ c.audit_command.ensures)

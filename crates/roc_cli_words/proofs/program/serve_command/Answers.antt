@@ -6,4 +6,5 @@ returns c =
     let first = c.with-command.ensures _ _ c.cluster_command-command.ensures c.named.ensures.rule c.named.ensures.local in
     let second = c.with-command-2.ensures _ _ first c.named-2.ensures.rule c.named-2.ensures.local in
     let third = c.with-command-3.ensures _ _ second c.flag.ensures.rule c.flag.ensures.local in
-    c.with.ensures _ _ third c.choice.ensures.rule c.choice.ensures.local
+    let fourth = c.with-command-4.ensures _ _ third c.choice.ensures.rule c.choice.ensures.local in
+    c.with.ensures _ _ fourth c.choice-2.ensures.rule c.choice-2.ensures.local

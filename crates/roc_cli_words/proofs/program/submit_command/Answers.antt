@@ -5,4 +5,5 @@ pub returns : goal.returns
 returns c =
     let first = c.with-command.ensures _ _ c.cluster_command-command.ensures c.standing.ensures.rule c.standing.ensures.local in
     let second = c.with-command-2.ensures _ _ first c.named.ensures.rule c.named.ensures.local in
-    c.with.ensures _ _ second c.named-2.ensures.rule c.named-2.ensures.local
+    let third = c.with-command-3.ensures _ _ second c.named-2.ensures.rule c.named-2.ensures.local in
+    c.with.ensures _ _ third c.choice.ensures.rule c.choice.ensures.local
