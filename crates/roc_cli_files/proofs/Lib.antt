@@ -1,3 +1,4 @@
 pub mod Reading
 pub mod Listing
 pub mod Loading
+pub mod Logging

@@ -1,5 +1,5 @@
 -- What reading the files of a command with nodes gives
-use Rattle.std.proofs.Common.{◌≡◌, ℕ, ◌<◌, ◌≤◌, true, false, List, length, Option, Some, None, IfSome, Result, Ok, Err, IfOk, IfErr, refl, sym, ap, subst, ◌∙◌, option_map, Vec, Global}
+use Rattle.std.proofs.Common.{◌≡◌, ℕ, ◌<◌, ◌≤◌, true, false, List, length, Option, Some, None, IfSome, Result, Ok, Err, IfOk, IfErr, refl, sym, ap, subst, option_map}
 use Rattle.std.proofs.Math.Path.{fun_ext}
 use Rattle.std.proofs.lemmas.Bool.{leb-false, leb-true, false≢true}
 use Rattle.roc_base.specs.declared.node.Shard.{Shard}
@@ -7,7 +7,6 @@ use Rattle.roc_io.specs.declared.link.Addr.{Addr}
 use Rattle.roc_plan.specs.Groups.{Plan}
 use Rattle.roc_check.specs.Checked.{IsPlanOfText}
 use Rattle.roc_cluster.specs.File.{IsClusterFile}
-use Rattle.roc_sched.specs.declared.line.Request.{Request}
 use Rattle.roc_cli_files.specs.declared.fault.Fault.{Fault}
 use Rattle.roc_cli_files.specs.declared.nodes.NodeNames.{NodeNames}
 use Rattle.roc_cli_files.specs.declared.nodes.Nodes.{Nodes}

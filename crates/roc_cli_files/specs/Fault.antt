@@ -3,12 +3,14 @@ use Rattle.std.specs.Prelude.{◌≡◌, ◌⊎◌, ℕ, Bool, true, false, List
 use Rattle.roc_io.specs.Observed.{Adds}
 use Rattle.roc_lang_scope.specs.FaultText.{what_text}
 use Rattle.roc_cluster.specs.FaultText.{fault_text as cluster_text}
+use Rattle.roc_log.specs.FaultText.{what_text as log_text}
 use Rattle.roc_cli_words.specs.FaultText.{value_text}
 use Rattle.roc_cli_files.specs.declared.fault.Fault.{Fault}
-use Rattle.roc_cli_files.specs.declared.fault.Fault.TheVariants.{Refused, Value, NoShard, TooLong, At, Scope, Cluster, Journal, Rejected, Memory, Unanswered, File, Sink, Link, Child, Disk, Full}
-use Rattle.roc_cli_files.specs.Says.{word_line, long_line, text_line, fault_line, journal_line, file_line, child_line, disk_line, full_line, Errors, Says}
+use Rattle.roc_cli_files.specs.declared.fault.Fault.TheVariants.{Refused, Value, NoShard, TooLong, At, Scope, Cluster, Journal, Log, Gap, Rejected}
+use Rattle.roc_cli_files.specs.declared.fault.Fault.TheVariants.{Memory, Unanswered, File, Sink, Link, Child, Disk, Full, Refuted, Book}
+use Rattle.roc_cli_files.specs.Says.{word_line, long_line, text_line, fault_line, journal_line, gap_line, file_line, child_line, disk_line, full_line, book_line, Errors, Says}
 
--- the line on standard error; there is none where the workload is not acceptable, or requests are unanswered
+-- the line on standard error; there is none where the workload is not acceptable, requests are unanswered, or logs are not explained
 abbrev pub line_of : Fault → List ℕ
 line_of (Refused text) = string_bytes text
 line_of (Value name) = word_line (value_text name)
@@ -18,6 +20,8 @@ line_of (At file line what) = fault_line file.now line what.now
 line_of (Scope file line what) = fault_line file.now line (what_text what)
 line_of (Cluster file fault) = text_line file.now (cluster_text fault)
 line_of (Journal file) = journal_line file.now
+line_of (Log file line what) = fault_line file.now line (log_text what)
+line_of (Gap shard) = gap_line shard.0
 line_of Rejected = []
 line_of Unanswered = []
 line_of Memory = word_line (codes "memory")
@@ -27,12 +31,14 @@ line_of Link = word_line (codes "link")
 line_of (Child shard status) = child_line shard.0 status
 line_of (Disk file) = disk_line file.now
 line_of (Full file) = full_line file.now
+line_of Refuted = []
+line_of (Book file) = book_line file.now
 
 -- the program ends with this status, and standard error takes this line
 abbrev pub EndsWith : (wanted : ℕ) → (line : List ℕ) → (status : ℕ) → Errors → Type 0
 EndsWith wanted line status err = (status ≡ wanted) × Says err line
 
--- how each fault is told: that of a refused file or of a child as want of memory, where there is none for the text of its line
+-- how each fault is told: that of a refused file, of a gap or of a child as want of memory, where there is none for the text of its line
 abbrev pub IsTold : Fault → (status : ℕ) → Errors → Type 0
 IsTold Rejected status err = status ≡ 1
 IsTold Unanswered status err = status ≡ 5
@@ -47,6 +53,8 @@ IsTold Link status err = EndsWith 8 (line_of Link) status err
 IsTold (Child shard own) status err = EndsWith 9 (line_of (Child shard own)) status err ⊎ EndsWith 4 (line_of Memory) status err
 IsTold (Disk file) status err = EndsWith 10 (line_of (Disk file)) status err
 IsTold (Full file) status err = EndsWith 11 (line_of (Full file)) status err
+IsTold Refuted status err = status ≡ 12
+IsTold (Book file) status err = EndsWith 13 (line_of (Book file)) status err
 IsTold fault status err = EndsWith 3 (line_of fault) status err ⊎ EndsWith 4 (line_of Memory) status err
 
 -- a file could not be read
@@ -68,6 +76,11 @@ blames_link _ = false
 abbrev pub blames_disk : Fault → Bool
 blames_disk (Disk file) = true
 blames_disk _ = false
+
+-- a call of the log's book failed
+abbrev pub blames_book : Fault → Bool
+blames_book (Book file) = true
+blames_book _ = false
 
 -- ---- answers
 

@@ -1,5 +1,6 @@
 -- What a named file holds, as far as that is told: docs/FORMATS.md, "The program"
-use Rattle.std.specs.Prelude.{◌≡◌, ℕ, ◌<◌, ◌≤◌, List, [], length, Option, Some, None, IfSome}
+use Rattle.std.specs.Prelude.{◌≡◌, ℕ, ◌<◌, ◌≤◌, List, [], ◌∷◌, ◌++◌, length, Option, Some, None, IfSome}
+use Rattle.roc_base.specs.declared.node.Node.{Node}
 use Rattle.roc_lang.specs.Syntax.{Tree}
 use Rattle.roc_lang.specs.Grammar.{text_limit}
 use Rattle.roc_lang.specs.Scope.{Fault, faults}
@@ -18,6 +19,9 @@ use Rattle.roc_cluster.specs.Answer.{IsClusterFault}
 use Rattle.roc_sched.specs.declared.fault.What.{What as ScheduleWhat}
 use Rattle.roc_sched.specs.declared.line.Request.{Request}
 use Rattle.roc_sched.specs.Schedule.{most_bytes}
+use Rattle.roc_log.specs.declared.fault.What.{What as LogWhat}
+use Rattle.roc_log.specs.declared.line.Log.{Log}
+use Rattle.roc_log.specs.Logs.{IsLog, IsLogFault}
 use Rattle.roc_cli_files.specs.Requests.{AreRequestsOf, IsRequestsFault}
 
 -- these are the bytes that the name holds, where they are told
@@ -127,3 +131,34 @@ pub record LacksShard (content : List ℕ → Option (List ℕ)) (files : NodeFi
   pub number : ℕ
   pub asked : files.shard ≡ Some number
   pub past : plan.program.shards ≤ number
+
+-- ---- the logs of nodes
+
+abbrev pub most_log_bytes : ℕ
+most_log_bytes = 67108864
+
+-- the name holds this log with this tag, of a node that is none of those seen, and not too many bytes
+pub record HoldsLog (content : List ℕ → Option (List ℕ)) (name : List ℕ) (program : Workload) (tag : List ℕ) (seen : List Node) (log : Log) : Type 0 where
+  pub bytes : List ℕ
+  pub held : Holds content name bytes
+  pub size : length bytes ≤ most_log_bytes
+  pub is : IsLog program tag seen bytes log
+
+-- the name holds bytes that are none, and this is their first fault
+pub record HoldsNoLog (content : List ℕ → Option (List ℕ)) (name : List ℕ) (program : Workload) (tag : List ℕ) (seen : List Node) (line : ℕ) (what : LogWhat) : Type 0 where
+  pub bytes : List ℕ
+  pub held : Holds content name bytes
+  pub size : length bytes ≤ most_log_bytes
+  pub fault : IsLogFault program tag seen bytes line what
+
+-- the names hold these logs, one by one, each of a node that is none of those seen and of those of the logs before it
+abbrev pub HoldLogsBehind : (List ℕ → Option (List ℕ)) → Workload → (tag : List ℕ) → (seen : List Node) → (names : List (List ℕ)) → List Log → Type 0
+HoldLogsBehind content program tag seen [] [] = Unit {0}
+HoldLogsBehind content program tag seen [] (log ∷ logs) = ⊥
+HoldLogsBehind content program tag seen (name ∷ names) [] = ⊥
+HoldLogsBehind content program tag seen (name ∷ names) (log ∷ logs) =
+    HoldsLog content name program tag seen log × HoldLogsBehind content program tag (seen ++ log.node ∷ []) names logs
+
+-- the names hold these logs, each of another node
+abbrev pub HoldLogs : (List ℕ → Option (List ℕ)) → (names : List (List ℕ)) → Plan → (tag : List ℕ) → List Log → Type 0
+HoldLogs content names plan tag logs = HoldLogsBehind content plan.program tag [] names logs

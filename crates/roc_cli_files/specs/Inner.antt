@@ -2,3 +2,4 @@ pub mod Requests
 pub mod Input
 pub mod Listed
 pub mod Shards
+pub mod Logs

@@ -16,6 +16,10 @@ use Rattle.roc_cli_files.specs.Listed.{ClusterFails, RequestsFail}
 abbrev pub tag_of_bytes : List ℕ → List ℕ
 tag_of_bytes bytes = take 8 (sha256 bytes)
 
+-- the name holds a workload with this plan and this tag
+abbrev pub HoldsTagged : (List ℕ → Option (List ℕ)) → (name : List ℕ) → Plan → (tag : List ℕ) → Type 0
+HoldsTagged content name plan tag = (h : HoldsPlan content name plan) × (tag ≡ tag_of_bytes h.bytes)
+
 -- the names, as the code has them
 abbrev pub files_named : NodeNames → NodeFiles
 files_named names = record {

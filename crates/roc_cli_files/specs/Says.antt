@@ -32,6 +32,10 @@ long_line file = file ++ codes ": limit" ++ 10 ∷ []
 abbrev pub journal_line : List ℕ → List ℕ
 journal_line file = file ++ codes ": journal" ++ 10 ∷ []
 
+-- `LOGS: gap N`, where no log is of the server of a shard
+abbrev pub gap_line : (shard : ℕ) → List ℕ
+gap_line shard = codes "LOGS: gap " ++ decimal shard ++ 10 ∷ []
+
 -- `FILE: TEXT`, of a cluster file
 abbrev pub text_line : (file text : List ℕ) → List ℕ
 text_line file text = file ++ codes ": " ++ text ++ 10 ∷ []
@@ -52,6 +56,10 @@ disk_line file = codes "disk " ++ file ++ 10 ∷ []
 -- `full FILE`
 abbrev pub full_line : List ℕ → List ℕ
 full_line file = codes "full " ++ file ++ 10 ∷ []
+
+-- `log FILE`
+abbrev pub book_line : List ℕ → List ℕ
+book_line file = codes "log " ++ file ++ 10 ∷ []
 
 -- standard error takes this line, or a front of it at a fault of its own, which is counted
 pub record Says (err : Errors) (line : List ℕ) : Type 0 where

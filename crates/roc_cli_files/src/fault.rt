@@ -9,6 +9,7 @@ use roc_cli_words::ValueName;
 use roc_cluster::ClusterFault;
 use roc_io::{Sink, Written, write_all};
 use roc_lang_scope::ScopeWhat;
+use roc_log::What as LogWhat;
 use std::alloc::Global;
 
 /// Why the program ends without having done what it was asked.
@@ -41,6 +42,14 @@ pub enum Fault<'a> {
     },
     /// A journal is none whose messages the server of that shard takes.
     Journal(&'a str),
+    /// A file is no log, or none beside the logs before it: the line, and what is wrong there.
+    Log {
+        file: &'a str,
+        line: u64,
+        what: LogWhat,
+    },
+    /// No log is of the server of that shard.
+    Gap(Shard),
     /// A workload is not acceptable. Standard output took the line that says why.
     Rejected,
     /// There is no memory.
@@ -62,6 +71,10 @@ pub enum Fault<'a> {
     Disk(&'a str),
     /// The journal has no room for another message.
     Full(&'a str),
+    /// What the logs tell is not explained. Standard output took the line that says why.
+    Refuted,
+    /// A call of the log's book failed.
+    Book(&'a str),
 }
 
 impl Fault<'_> {
@@ -69,6 +82,7 @@ impl Fault<'_> {
     pub fn tell<E: Sink>(self, alloc: Global, err: &mut E) -> u8
         ensures silent { result < 2 → err.new ≡ err.old }
         ensures unsaid { result ≡ 5 → err.new ≡ err.old }
+        ensures unexplained { result ≡ 12 → err.new ≡ err.old }
         ensures told { IsTold self.entry result (errors E.Sink err.old err.new) }
     {
         match self {
@@ -84,6 +98,8 @@ impl Fault<'_> {
             Fault::Scope { file, line, what } => tell_misuse(alloc, err, file, line, what),
             Fault::Cluster { file, fault } => tell_cluster(alloc, err, file, fault),
             Fault::Journal(file) => says(err, &[file.as_bytes(), b": journal\n"], 3),
+            Fault::Log { file, line, what } => tell_log(alloc, err, file, line, what),
+            Fault::Gap(shard) => tell_gap(alloc, err, shard),
             Fault::Memory => says(err, &[b"memory\n"], 4),
             Fault::Unanswered => 5,
             Fault::File(file) => says(err, &[b"file ", file.as_bytes(), b"\n"], 6),
@@ -99,6 +115,8 @@ impl Fault<'_> {
             } => tell_child(alloc, err, shard),
             Fault::Disk(file) => says(err, &[b"disk ", file.as_bytes(), b"\n"], 10),
             Fault::Full(file) => says(err, &[b"full ", file.as_bytes(), b"\n"], 11),
+            Fault::Refuted => 12,
+            Fault::Book(file) => says(err, &[b"log ", file.as_bytes(), b"\n"], 13),
         }
     }
 }
@@ -154,6 +172,38 @@ fn cluster_line(alloc: Global, file: &str, fault: ClusterFault) -> Result<String
 {
     let text = fault.text(alloc)?;
     Ok(format!(in alloc; "{file}: {text}\n")?)
+}
+
+// The same of a log.
+fn tell_log<E: Sink>(alloc: Global, err: &mut E, file: &str, line: u64, what: LogWhat) -> u8
+    ensures { IsTold (Fault.Log file.entry line what) result (errors E.Sink err.old err.new) }
+{
+    let Ok(text) = log_line(alloc, file, line, what) else {
+        err.write(b"memory\n");
+        return 4;
+    };
+    err.write(text.as_bytes());
+    3
+}
+
+// The line of a file that is no log.
+fn log_line(alloc: Global, file: &str, line: u64, what: LogWhat) -> Result<String, NoMemory>
+    ensures { IfOk result (λ text. string_bytes text ≡ line_of (Fault.Log file.entry line what)) }
+{
+    let text = what.text(alloc)?;
+    Ok(format!(in alloc; "{file}:{line}: {text}\n")?)
+}
+
+// The same of a server without a log.
+fn tell_gap<E: Sink>(alloc: Global, err: &mut E, shard: Shard) -> u8
+    ensures { IsTold (Fault.Gap shard) result (errors E.Sink err.old err.new) }
+{
+    let Ok(text) = format!(in alloc; "LOGS: gap {}\n", shard.0) else {
+        err.write(b"memory\n");
+        return 4;
+    };
+    err.write(text.as_bytes());
+    3
 }
 
 // The same of a child that could not be started or awaited.

@@ -4,8 +4,9 @@
 //!
 //! What is said of the bytes that files hold, of the reads that failed and of what the sinks take holds as far as these
 //! are told; the counts of faults hold always: a count rises exactly at the fault that blames it, and the names whose
-//! reads failed grow by the one that the fault names. [`bytes_of`], [`plan_of`] and [`nodes_of`] give what one file, a
-//! workload's file and the files of a command with nodes hold, or the first reason why they do not; [`print_file`] and
+//! reads failed grow by the one that the fault names. [`bytes_of`], [`plan_of`], [`tagged_of`] and [`nodes_of`] give what one file, a
+//! workload's file, the same with its tag, and the files of a command with nodes hold, or the first reason why they do not; [`logs_of`] gives
+//! an auditor that has taken the logs which files hold, or the first reason why they hold none; [`print_file`] and
 //! [`check_file`] have standard output take a workload's canonical text and the text of its check, or the line that
 //! refuses it; [`Fault::tell`] writes a fault's line and answers its status.
 //!
@@ -19,13 +20,17 @@ mod check;
 mod fault;
 mod input;
 mod listed;
+mod logs;
 mod nodes;
 mod requests;
+mod tagged;
 mod text;
 
 pub use check::check_file;
 pub use fault::Fault;
 pub use input::{bytes_of, plan_of};
 pub use listed::MOST_LISTED_BYTES;
+pub use logs::{MOST_LOG_BYTES, logs_of};
 pub use nodes::{NodeNames, Nodes, nodes_of};
+pub use tagged::{Tagged, tagged_of};
 pub use text::print_file;
