@@ -124,7 +124,7 @@ module _ (call : RunCall) where
   pub gen_ends : (seed shards txns : ℕ) (part : Part) (result : Result Unit Fault) → IsGen call.words seed shards txns part
       → GenEnds seed shards txns part call.out.old call.out.new result → Ends call result
   gen_ends seed shards txns part (Ok done) given (text, generated, adds) =
-      inr (inr (inr (record { seed = seed; shards = shards; txns = txns; part = part; given = given; text = text; generated = generated; taken = adds })))
+      inr (inr (inr (inl (record { seed = seed; shards = shards; txns = txns; part = part; given = given; text = text; generated = generated; taken = adds }))))
   gen_ends seed shards txns part (Err Memory) given same = with_nothing same
   gen_ends seed shards txns part (Err Sink) given (text, generated, front) = in_generated seed shards txns part text given generated front
   gen_ends seed shards txns part (Err _) given h = absurd h

@@ -1,5 +1,5 @@
 -- What status 0 says
-use Rattle.std.proofs.Common.{◌≡◌, inl, inr, ℕ, List, Ok, refl, arith}
+use Rattle.std.proofs.Common.{◌≡◌, inl, inr, Ok, refl, arith}
 use Rattle.roc_node_serve.specs.declared.ends.ServeEnd.TheVariants as serve_end
 use Rattle.roc_node_submit.specs.declared.ends.SubmitEnd.TheVariants as submit_end
 use Rattle.roc_node_local.specs.declared.stops.StopEnd.TheVariants as stop_end
@@ -8,11 +8,13 @@ use Rattle.roc_cli_words.specs.Commands.{check, print, replay, serve, submit, st
 use Rattle.roc_cli_files.specs.Says.{Errors}
 use Rattle.roc_cli_nodes.specs.Call.{WholeCall, ReadsAll}
 use Rattle.roc_cli_nodes.specs.NodeEnds as nodes_end
-use Rattle.roc_cli_nodes.specs.Words.{AreReplayWords, ArePrintWords, AreCheckWords, AreGenWords, AreServeWords, AreSubmitWords, AreStopWords, AreLocalWords, AreCommandWords, NamesNodes, node_files}
+use Rattle.roc_cli_nodes.specs.Words.{AreReplayWords, ArePrintWords, AreCheckWords, AreGenWords, AreAuditWords, AreServeWords, AreSubmitWords, AreStopWords, AreLocalWords, AreCommandWords, NamesNodes, node_files}
 use Rattle.roc_cli_nodes.specs.Nodes.{ServeEnded, SubmitEnded, StopEnded, LocalEnded}
 use Rattle.roc_cli_nodes.proofs.Naming.{unlike, no_name}
 use Rattle.roc_cli_nodes.proofs.Named.{nodes_named, nodes_words, serve_done, submit_done, stop_done, local_done}
 use Rattle.roc_cli.specs.Done.{Replays, Prints, Checks, Generates}
+use Rattle.roc_cli.specs.Audited.{Audits}
+use Rattle.roc_cli.proofs.Commands.{not_audit, audit_words, audit_alone, audited_words}
 use Rattle.roc_cli.specs.Status.{Answers}
 use Rattle.roc_cli.specs.Inner.Faultless.{IsShardless, IsUndone, AreFitting}
 use Rattle.roc_cli.specs.Inner.Ends.{Ends, WholeEnds}
@@ -23,43 +25,56 @@ module _ (call : WholeCall) where
   replay_done (inl (inl done)) are = done
   replay_done (inl (inr (inl done))) (workload, schedule, given) = unlike (Replays call.run) call.run.words (print done.workload) (replay workload schedule) done.given given refl
   replay_done (inl (inr (inr (inl done)))) (workload, schedule, given) = unlike (Replays call.run) call.run.words (check done.workload) (replay workload schedule) done.given given refl
-  replay_done (inl (inr (inr (inr done)))) (workload, schedule, given) = unlike (Replays call.run) call.run.words (gen done.seed done.shards done.txns done.part) (replay workload schedule) done.given given refl
+  replay_done (inl (inr (inr (inr (inl done))))) (workload, schedule, given) = unlike (Replays call.run) call.run.words (gen done.seed done.shards done.txns done.part) (replay workload schedule) done.given given refl
+  replay_done (inl (inr (inr (inr (inr done))))) (workload, schedule, given) = not_audit (Replays call.run) call.run.words (replay workload schedule) given refl (audited_words call.run done)
   replay_done (inr h) (workload, schedule, given) = absurd (no_name node_files call.run.words (replay workload schedule) given refl _ (nodes_named call nodes_end.Done h).1)
 
   print_done : WholeEnds call (Ok tt) → ArePrintWords call.run.words → Prints call.run
   print_done (inl (inl done)) (workload, given) = unlike (Prints call.run) call.run.words (replay done.asked.workload done.asked.schedule) (print workload) done.asked.given given refl
   print_done (inl (inr (inl done))) are = done
   print_done (inl (inr (inr (inl done)))) (workload, given) = unlike (Prints call.run) call.run.words (check done.workload) (print workload) done.given given refl
-  print_done (inl (inr (inr (inr done)))) (workload, given) = unlike (Prints call.run) call.run.words (gen done.seed done.shards done.txns done.part) (print workload) done.given given refl
+  print_done (inl (inr (inr (inr (inl done))))) (workload, given) = unlike (Prints call.run) call.run.words (gen done.seed done.shards done.txns done.part) (print workload) done.given given refl
+  print_done (inl (inr (inr (inr (inr done))))) (workload, given) = not_audit (Prints call.run) call.run.words (print workload) given refl (audited_words call.run done)
   print_done (inr h) (workload, given) = absurd (no_name node_files call.run.words (print workload) given refl _ (nodes_named call nodes_end.Done h).1)
 
   check_done : WholeEnds call (Ok tt) → AreCheckWords call.run.words → Checks call.run
   check_done (inl (inl done)) (workload, given) = unlike (Checks call.run) call.run.words (replay done.asked.workload done.asked.schedule) (check workload) done.asked.given given refl
   check_done (inl (inr (inl done))) (workload, given) = unlike (Checks call.run) call.run.words (print done.workload) (check workload) done.given given refl
   check_done (inl (inr (inr (inl done)))) are = done
-  check_done (inl (inr (inr (inr done)))) (workload, given) = unlike (Checks call.run) call.run.words (gen done.seed done.shards done.txns done.part) (check workload) done.given given refl
+  check_done (inl (inr (inr (inr (inl done))))) (workload, given) = unlike (Checks call.run) call.run.words (gen done.seed done.shards done.txns done.part) (check workload) done.given given refl
+  check_done (inl (inr (inr (inr (inr done))))) (workload, given) = not_audit (Checks call.run) call.run.words (check workload) given refl (audited_words call.run done)
   check_done (inr h) (workload, given) = absurd (no_name node_files call.run.words (check workload) given refl _ (nodes_named call nodes_end.Done h).1)
 
   gen_done : WholeEnds call (Ok tt) → AreGenWords call.run.words → Generates call.run
   gen_done (inl (inl done)) (seed, shards, txns, part, given) = unlike (Generates call.run) call.run.words (replay done.asked.workload done.asked.schedule) (gen seed shards txns part) done.asked.given given refl
   gen_done (inl (inr (inl done))) (seed, shards, txns, part, given) = unlike (Generates call.run) call.run.words (print done.workload) (gen seed shards txns part) done.given given refl
   gen_done (inl (inr (inr (inl done)))) (seed, shards, txns, part, given) = unlike (Generates call.run) call.run.words (check done.workload) (gen seed shards txns part) done.given given refl
-  gen_done (inl (inr (inr (inr done)))) are = done
+  gen_done (inl (inr (inr (inr (inl done))))) are = done
+  gen_done (inl (inr (inr (inr (inr done))))) (seed, shards, txns, part, given) = not_audit (Generates call.run) call.run.words (gen seed shards txns part) given refl (audited_words call.run done)
   gen_done (inr h) (seed, shards, txns, part, given) = absurd (no_name node_files call.run.words (gen seed shards txns part) given refl _ (nodes_named call nodes_end.Done h).1)
+
+  audit_done : WholeEnds call (Ok tt) → AreAuditWords call.run.words → Audits call.run
+  audit_done (inl (inl done)) are = not_audit (Audits call.run) call.run.words (replay done.asked.workload done.asked.schedule) done.asked.given refl are
+  audit_done (inl (inr (inl done))) are = not_audit (Audits call.run) call.run.words (print done.workload) done.given refl are
+  audit_done (inl (inr (inr (inl done)))) are = not_audit (Audits call.run) call.run.words (check done.workload) done.given refl are
+  audit_done (inl (inr (inr (inr (inl done))))) are = not_audit (Audits call.run) call.run.words (gen done.seed done.shards done.txns done.part) done.given refl are
+  audit_done (inl (inr (inr (inr (inr done))))) are = done
+  audit_done (inr h) are = absurd (audit_alone call.run.words are (nodes_named call nodes_end.Done h))
 
   -- a command without nodes was done, though the words ask for one with them
   not_without : (A : Type 0) → Ends call.run (Ok tt) → NamesNodes call.run.words → A
   not_without A (inl done) (files, names) = absurd (no_name node_files call.run.words (replay done.asked.workload done.asked.schedule) done.asked.given refl files names)
   not_without A (inr (inl done)) (files, names) = absurd (no_name node_files call.run.words (print done.workload) done.given refl files names)
   not_without A (inr (inr (inl done))) (files, names) = absurd (no_name node_files call.run.words (check done.workload) done.given refl files names)
-  not_without A (inr (inr (inr done))) (files, names) = absurd (no_name node_files call.run.words (gen done.seed done.shards done.txns done.part) done.given refl files names)
+  not_without A (inr (inr (inr (inl done)))) (files, names) = absurd (no_name node_files call.run.words (gen done.seed done.shards done.txns done.part) done.given refl files names)
+  not_without A (inr (inr (inr (inr done)))) named = absurd (audit_alone call.run.words (audited_words call.run done) named)
 
-  served : WholeEnds call (Ok tt) → AreServeWords call.run.words → ServeEnded call.run call.link call.disk serve_end.Done
-  served (inl h) (workload, cluster, shard, turns, counts, journal, given) = not_without (ServeEnded call.run call.link call.disk serve_end.Done) h (_, (serve workload cluster shard turns counts journal, given, refl))
+  served : WholeEnds call (Ok tt) → AreServeWords call.run.words → ServeEnded call.run call.link call.disk call.book serve_end.Done
+  served (inl h) (workload, cluster, shard, turns, counts, journal, log, given) = not_without (ServeEnded call.run call.link call.disk call.book serve_end.Done) h (_, (serve workload cluster shard turns counts journal log, given, refl))
   served (inr h) are = serve_done call h are
 
-  submitted : WholeEnds call (Ok tt) → AreSubmitWords call.run.words → SubmitEnded call.run call.link submit_end.Done
-  submitted (inl h) (workload, cluster, requests, coord, turns, given) = not_without (SubmitEnded call.run call.link submit_end.Done) h (_, (submit workload cluster requests coord turns, given, refl))
+  submitted : WholeEnds call (Ok tt) → AreSubmitWords call.run.words → SubmitEnded call.run call.link call.book submit_end.Done
+  submitted (inl h) (workload, cluster, requests, coord, turns, log, given) = not_without (SubmitEnded call.run call.link call.book submit_end.Done) h (_, (submit workload cluster requests coord turns log, given, refl))
   submitted (inr h) are = submit_done call h are
 
   stopped : WholeEnds call (Ok tt) → AreStopWords call.run.words → StopEnded call.run call.link stop_end.Done
@@ -74,7 +89,8 @@ module _ (call : WholeCall) where
   done_words (inl (inl done)) = (replay done.asked.workload done.asked.schedule, done.asked.given)
   done_words (inl (inr (inl done))) = (print done.workload, done.given)
   done_words (inl (inr (inr (inl done)))) = (check done.workload, done.given)
-  done_words (inl (inr (inr (inr done)))) = (gen done.seed done.shards done.txns done.part, done.given)
+  done_words (inl (inr (inr (inr (inl done))))) = (gen done.seed done.shards done.txns done.part, done.given)
+  done_words (inl (inr (inr (inr (inr done))))) = audit_words call.run.words (audited_words call.run done)
   done_words (inr h) = nodes_words call nodes_end.Done h
 
   shardless_undone : IsShardless call → WholeEnds call (Ok tt) → ⊥
@@ -92,12 +108,15 @@ module _ (call : WholeCall) where
     printed = λ _ are. print_done done are;
     checked = λ _ are. check_done done are;
     generated = λ _ are. gen_done done are;
+    audited = λ _ are. audit_done done are;
     served = λ _ are. served done are;
     submitted = λ _ are. submitted done are;
     stopped = λ _ are. stopped done are;
     ran = λ _ are. ran done are;
     childless = λ _. childless;
     complete = λ _. inl refl;
+    complete_audit = λ _. inl refl;
+    honest = λ _. inl refl;
     complete_nodes = λ _. inl refl;
     rejected = λ e. absurd (omega arith);
     no_plan = λ lacks. absurd (not_undone (laws.planless lacks).is done);
@@ -107,6 +126,7 @@ module _ (call : WholeCall) where
     refused = λ e. absurd (omega arith);
     no_workload = λ lacks. absurd (not_undone (laws.workloadless lacks).is done);
     no_schedule = λ lacks. absurd (not_undone (laws.scheduleless lacks).is done);
+    no_logs = λ lacks. absurd (not_undone (laws.logless lacks).is done);
     memory = λ e. absurd (omega arith);
     unanswered = λ e. absurd (omega arith);
     unread = λ e. absurd (omega arith);
@@ -116,4 +136,6 @@ module _ (call : WholeCall) where
     child = λ e. absurd (omega arith);
     disk = λ e. absurd (omega arith);
     full = λ e. absurd (omega arith);
+    refuted = λ e. absurd (omega arith);
+    unlogged = λ e. absurd (omega arith);
   }

@@ -4,6 +4,9 @@ use Rattle.roc_cli.specs.Inner.Faultless.{AreFitting}
 use Rattle.roc_cli.specs.Inner.Texts.{TextLaws}
 use Rattle.roc_cli.proofs.Fitting.{faultless}
 use Rattle.roc_cli.proofs.FittingNodes.{nodes_faultless, shardless}
+use Rattle.roc_cli.proofs.FittingLogs.{auditable}
+use Rattle.roc_cli.proofs.HonestLogs.{explicable}
+use Rattle.roc_cli.proofs.UnfittingLogs.{unjudged}
 use Rattle.roc_cli.proofs.Unfitting.{unplanned, unwritten, unplayed}
 
 pub fitting : TextLaws → (call : WholeCall) → AreFitting call
@@ -14,4 +17,7 @@ fitting laws call = record {
   planless = unplanned laws call;
   workloadless = unwritten call;
   scheduleless = unplayed laws call;
+  audits = auditable laws call.run;
+  honest = explicable laws call.run;
+  logless = unjudged laws call;
 }

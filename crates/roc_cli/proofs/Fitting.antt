@@ -10,19 +10,9 @@ use Rattle.roc_lang_scope.specs.Fault.{first}
 use Rattle.roc_program.specs.Program.{Workload}
 use Rattle.roc_lang_resolve.specs.Resolve.{resolved}
 use Rattle.roc_plan.specs.Groups.{Plan}
-use Rattle.roc_io.specs.declared.link.Addr.{Addr}
-use Rattle.roc_cluster.specs.declared.fault.ClusterFault.{ClusterFault}
-use Rattle.roc_cluster.specs.declared.fault.ClusterFault.TheVariants as cluster_fault
-use Rattle.roc_cluster.specs.File.{IsClusterFile}
-use Rattle.roc_cluster.specs.Answer.{IsClusterFault}
 use Rattle.roc_report.specs.Line.{Line}
-use Rattle.roc_check.specs.Checked.{IsTextOf, IsPlanOf, IsPlanOfText, IsRefusedBy, IsRefusedText}
-use Rattle.roc_sched.specs.declared.fault.What.{What as ScheduleWhat}
-use Rattle.roc_sched.specs.declared.line.Request.{Request}
-use Rattle.roc_replay.specs.declared.asked.BoundLine.{BoundLine}
-use Rattle.roc_sched.specs.Schedule.{most_bytes, AreRequests, IsRequestFault}
-use Rattle.roc_replay.specs.BoundLine.{IsScheduleOf}
-use Rattle.roc_replay.specs.Played.{IsPlayed, AsksOnlySent}
+use Rattle.roc_check.specs.Checked.{IsTextOf, IsPlanOfText, IsRefusedBy, IsRefusedText}
+use Rattle.roc_sched.specs.Schedule.{most_bytes}
 use Rattle.roc_replay.specs.Ended.{IsTextFault}
 use Rattle.roc_cli_words.specs.declared.value.Part.{Part}
 use Rattle.roc_cli_words.specs.declared.value.ValueName.{ValueName}
@@ -31,10 +21,11 @@ use Rattle.roc_cli_words.specs.Answer.{AreWordsOf, HaveNoValue}
 use Rattle.roc_cli_nodes.specs.Call.{RunCall}
 use Rattle.roc_cli_nodes.specs.Words.{IsReplay, IsGen, node_files, program_of, workload_of, NamesProgram, NamesWorkload, NamesNodeFiles}
 use Rattle.roc_cli_files.specs.Held.{NodeFiles, Holds, HoldsMore, HoldsPlan, HoldsText, HoldsFault, HoldsMisuse, HoldsRejected}
-use Rattle.roc_cli.specs.Refused.{AreRefusedWords, by_clap, no_value, no_shard, IsRefused, long_workload, no_text, out_of_scope, long_schedule, bad_schedule, long_cluster, bad_cluster, long_requests, bad_requests}
+use Rattle.roc_cli.specs.Refused.{AreRefusedWords, by_clap, no_value, no_shard, IsRefused, long_workload, no_text, out_of_scope, long_schedule, bad_schedule, long_cluster, bad_cluster, long_requests, bad_requests, bad_logs}
 use Rattle.roc_cli.specs.Fit.{ReplayFits, PrintFits, CheckFits, IsFit}
 use Rattle.roc_cli.specs.Inner.Faultless.{IsFaultless}
 use Rattle.roc_cli.specs.Inner.Texts.{TextLaws}
+use Rattle.roc_cli.proofs.Commands.{not_audit, refused_logs}
 use Rattle.roc_cli_nodes.proofs.Naming.{unlike, same_name, no_name, as_workload, replay_schedule}
 
 -- ---- what a file holds
@@ -134,6 +125,7 @@ module _ (laws : TextLaws) (call : RunCall) where
     replay_right _ (bad_cluster files plan fault names planned held same) = no_nodes files names
     replay_right _ (long_requests files plan addrs name names planned held is more same) = no_nodes files names
     replay_right _ (bad_requests files plan addrs name number what names planned held is not same) = no_nodes files names
+    replay_right _ (bad_logs line refused same) = not_audit ⊥ call.words (replay fit.workload fit.schedule) fit.given refl (refused_logs call line refused)
 
     replay_faultless : IsFaultless call
     replay_faultless = record {
@@ -162,6 +154,7 @@ module _ (laws : TextLaws) (call : RunCall) where
     check_right _ (bad_cluster files plan fault names planned held same) = checked_alone files names
     check_right _ (long_requests files plan addrs name names planned held is more same) = checked_alone files names
     check_right _ (bad_requests files plan addrs name number what names planned held is not same) = checked_alone files names
+    check_right _ (bad_logs line refused same) = not_audit ⊥ call.words (check fit.workload) fit.given refl (refused_logs call line refused)
 
     check_faultless : IsFaultless call
     check_faultless = record {
@@ -190,6 +183,7 @@ module _ (laws : TextLaws) (call : RunCall) where
     print_right _ (bad_cluster files plan fault names planned held same) = printed_alone files names
     print_right _ (long_requests files plan addrs name names planned held is more same) = printed_alone files names
     print_right _ (bad_requests files plan addrs name number what names planned held is not same) = printed_alone files names
+    print_right _ (bad_logs line refused same) = not_audit ⊥ call.words (print fit.workload) fit.given refl (refused_logs call line refused)
 
     print_faultless : IsFaultless call
     print_faultless = record {
@@ -218,6 +212,7 @@ module _ (laws : TextLaws) (call : RunCall) where
     gen_right _ (bad_cluster files plan fault names planned held same) = generated_alone files names
     gen_right _ (long_requests files plan addrs name names planned held is more same) = generated_alone files names
     gen_right _ (bad_requests files plan addrs name number what names planned held is not same) = generated_alone files names
+    gen_right _ (bad_logs line refused same) = not_audit ⊥ call.words (gen seed shards txns part) given refl (refused_logs call line refused)
 
     gen_faultless : IsFaultless call
     gen_faultless = record {

@@ -22,11 +22,12 @@ use Rattle.roc_cli_files.specs.Held.{NodeFiles, HasShard, HoldsPlan, HoldsReject
 use Rattle.roc_cli_files.specs.Requests.{request_fault, FitEach, IsFirstUnfitRequest, IsRequestsFault, no_requests, unfit_request}
 use Rattle.roc_cli_nodes.specs.NodeEnds.{NodesEnd}
 use Rattle.roc_cli_nodes.specs.Nodes.{AreNodesEnded, IsChildBlamed}
-use Rattle.roc_cli.specs.Stopped.{CutsOutput, in_report, in_text, in_check, in_rejection, in_generated}
-use Rattle.roc_cli.specs.Refused.{AreRefusedWords, by_clap, no_value, no_shard, IsRefused, long_workload, no_text, out_of_scope, long_schedule, bad_schedule, long_cluster, bad_cluster, long_requests, bad_requests}
+use Rattle.roc_cli.specs.Stopped.{CutsOutput, in_report, in_text, in_check, in_rejection, in_generated, in_verdict}
+use Rattle.roc_cli.specs.Refused.{AreRefusedWords, by_clap, no_value, no_shard, IsRefused, long_workload, no_text, out_of_scope, long_schedule, bad_schedule, long_cluster, bad_cluster, long_requests, bad_requests, bad_logs}
 use Rattle.roc_cli.specs.Fit.{IsListOfRequests, NodeFilesFit, NodesFit, MissesShard}
 use Rattle.roc_cli.specs.Inner.Ends.{Ends}
 use Rattle.roc_cli.specs.Inner.Faultless.{IsFaultless, IsShardless}
+use Rattle.roc_cli.proofs.Commands.{audit_alone, audited_words, refuted_words, refused_logs}
 use Rattle.roc_cli_nodes.proofs.Naming.{same_name, no_name, as_workload, as_program}
 use Rattle.roc_cli.specs.Inner.Texts.{TextLaws}
 use Rattle.roc_cli.proofs.Fitting.{told, told_more, not_long, not_faulty, in_scope, same_plan, not_rejected, no_such_value}
@@ -100,6 +101,7 @@ module _ (laws : TextLaws) (call : RunCall) where
         absurd (omega arith)
     nodes_right _ (bad_requests files plan addrs name number what names planned held is not same) =
         list_is_right name number what (listed_in files name names is) (subst (λ (p : Plan). HoldsNoRequests call.files.content name p.program number what) (their_plan files plan names planned) not)
+    nodes_right _ (bad_logs line refused same) = audit_alone call.words (refused_logs call line refused) (fit.files, fit.given)
 
     no_rejection : (workload : List ℕ) (program : Workload) (said : Line) → NamesProgram call.words workload → HoldsRejected call.files.content workload program said → ⊥
     no_rejection workload program said names held = not_rejected laws call.files.content fit.files.workload fit.bytes fit.held fit.plan fit.planned workload program said (their_program workload names) held
@@ -139,12 +141,13 @@ module _ (laws : TextLaws) (call : WholeCall) (missing : MissesShard call.run) w
   missing_uncut (in_check workload plan given held front) = no_name node_files call.run.words (check workload) given refl missing.right.files missing.right.given
   missing_uncut (in_generated seed shards txns part text given generated front) = no_name node_files call.run.words (gen seed shards txns part) given refl missing.right.files missing.right.given
   missing_uncut (in_rejection workload program said names held front) = no_rejection laws call.run missing.right workload program said names held
+  missing_uncut (in_verdict plan logs asked verdict is front) = audit_alone call.run.words (asked.asked.workload, _, asked.asked.given) (missing.right.files, missing.right.given)
 
   missing_unrun : (end : NodesEnd) → AreNodesEnded call end → ⊥
   missing_unrun end (inl (own, h, e)) =
-      nowhere _ h.plan (serve h.workload h.cluster h.shard h.turns h.counts h.journal, h.given, refl) (record { bytes = h.bytes; held = h.held.of_workload; is = h.held.planned }) h.held.has_shard
-  missing_unrun end (inr (inl (own, e, h))) =
-      none-some missing.number (ap (λ (f : NodeFiles). f.shard) (same_files _ (submit h.workload h.cluster h.listed h.coord h.turns, h.given, refl)) ∙ missing.asked)
+      nowhere _ h.plan (serve h.workload h.cluster h.shard h.turns h.counts h.journal h.log, h.given, refl) (record { bytes = h.bytes; held = h.held.of_workload; is = h.held.planned }) h.held.has_shard
+  missing_unrun end (inr (inl (own, h, e))) =
+      none-some missing.number (ap (λ (f : NodeFiles). f.shard) (same_files _ (submit h.workload h.cluster h.listed h.coord h.turns h.log, h.given, refl)) ∙ missing.asked)
   missing_unrun end (inr (inr (inl (own, e, h)))) = none-some missing.number (ap (λ (f : NodeFiles). f.shard) (same_files _ (stop h.workload h.cluster, h.given, refl)) ∙ missing.asked)
   missing_unrun end (inr (inr (inr (own, e, h)))) = none-some missing.number (ap (λ (f : NodeFiles). f.shard) (same_files _ (local h.workload h.cluster h.listed h.turns, h.given, refl)) ∙ missing.asked)
 
@@ -156,7 +159,8 @@ module _ (laws : TextLaws) (call : WholeCall) (missing : MissesShard call.run) w
   missing_undone (inl done) = not_alone done.asked.workload done.asked.schedule done.asked.given
   missing_undone (inr (inl done)) = no_name node_files call.run.words (print done.workload) done.given refl missing.right.files missing.right.given
   missing_undone (inr (inr (inl done))) = no_name node_files call.run.words (check done.workload) done.given refl missing.right.files missing.right.given
-  missing_undone (inr (inr (inr done))) = no_name node_files call.run.words (gen done.seed done.shards done.txns done.part) done.given refl missing.right.files missing.right.given
+  missing_undone (inr (inr (inr (inl done)))) = no_name node_files call.run.words (gen done.seed done.shards done.txns done.part) done.given refl missing.right.files missing.right.given
+  missing_undone (inr (inr (inr (inr done)))) = audit_alone call.run.words (audited_words call.run done) (missing.right.files, missing.right.given)
 
   pub shardless : IsShardless call
   shardless = record {
@@ -166,6 +170,7 @@ module _ (laws : TextLaws) (call : WholeCall) (missing : MissesShard call.run) w
     unrun = missing_unrun;
     no_child = missing_no_child;
     undone = missing_undone;
+    unrefuted = λ h. audit_alone call.run.words (refuted_words call.run h) (missing.right.files, missing.right.given);
   }
 
 -- a cluster file has no fault

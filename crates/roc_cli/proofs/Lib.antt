@@ -9,3 +9,7 @@ pub mod Told
 pub mod Finished
 pub mod Fits
 pub mod Unfitting
+mod Verdicts
+mod FittingLogs
+mod HonestLogs
+mod UnfittingLogs

@@ -8,21 +8,23 @@ use Rattle.roc_base.specs.declared.node.Shard.{Shard}
 use Rattle.roc_node_local.specs.declared.stops.StopEnd.TheVariants as stop_end
 use Rattle.roc_node_local.specs.declared.local.LocalEnd.TheVariants as local_end
 use Rattle.roc_cli_files.specs.declared.fault.Fault.{Fault}
-use Rattle.roc_cli_files.specs.declared.fault.Fault.TheVariants.{Rejected, Refused, Value, NoShard, Journal, Memory, Unanswered, File, Sink, Link, Child, Disk, Full}
+use Rattle.roc_cli_files.specs.declared.fault.Fault.TheVariants.{Rejected, Refused, Value, NoShard, Journal, Memory, Unanswered, File, Sink, Link, Child, Disk, Full, Refuted, Book}
 use Rattle.roc_cli_nodes.specs.Call.{RunCall, WholeCall, TakesNothing, ReadsAll}
-use Rattle.roc_cli_files.specs.Says.{Errors, Says, word_line, journal_line, file_line, child_line, disk_line, full_line}
-use Rattle.roc_cli_nodes.specs.Words.{AreReplayWords, ArePrintWords, AreCheckWords, AreGenWords, AreServeWords, AreSubmitWords, AreStopWords, AreLocalWords, AreCommandWords, NamesNodes}
+use Rattle.roc_cli_files.specs.Says.{Errors, Says, word_line, journal_line, file_line, child_line, disk_line, full_line, book_line}
+use Rattle.roc_cli_nodes.specs.Words.{AreReplayWords, ArePrintWords, AreCheckWords, AreGenWords, AreAuditWords, AreServeWords, AreSubmitWords, AreStopWords, AreLocalWords, AreCommandWords, NamesNodes}
 use Rattle.roc_cli.specs.Done.{Replays, Prints, Checks, Generates, Rejects}
-use Rattle.roc_cli_nodes.specs.Nodes.{ServeEnded, SubmitEnded, StopEnded, LocalEnded, AreNodesEnded, IsServedWith, IsChildBlamed, BlamesAnyChild}
+use Rattle.roc_cli.specs.Audited.{Audits, Refutes}
+use Rattle.roc_cli.specs.Fit.{IsFit}
+use Rattle.roc_cli_nodes.specs.Nodes.{ServeEnded, SubmitEnded, StopEnded, LocalEnded, AreNodesEnded, IsServedWith, IsBookBlamed, IsChildBlamed, BlamesAnyChild}
 use Rattle.roc_cli.specs.Stopped.{IsUnread, RunsOut, with_nothing, with_lines, CutsOutput}
-use Rattle.roc_cli.specs.Refused.{AreRefusedWords, IsRefused, RefusesJournal, long_workload, no_text, out_of_scope, long_schedule, bad_schedule, long_cluster, bad_cluster, long_requests, bad_requests}
+use Rattle.roc_cli.specs.Refused.{AreRefusedWords, IsRefused, RefusesJournal, long_workload, no_text, out_of_scope, long_schedule, bad_schedule, long_cluster, bad_cluster, long_requests, bad_requests, bad_logs}
 use Rattle.roc_cli.specs.Status.{IsOneOf, Answers}
-use Rattle.roc_cli.specs.Inner.Faultless.{IsFaultless, IsShardless, IsUndone, IsUnplanned, IsUnwritten, IsUnplayed, AreFitting}
+use Rattle.roc_cli.specs.Inner.Faultless.{IsFaultless, IsShardless, IsUndone, IsUnplanned, IsUnwritten, IsUnplayed, IsAuditable, IsExplicable, AreFitting}
 use Rattle.roc_cli_files.specs.Fault.{IsTold, EndsWith, line_of, Blames}
 use Rattle.roc_cli.specs.Inner.Ends.{RefusesWords, Fails, WholeEnds}
 use Rattle.roc_cli_nodes.specs.Ends.{LoopEnded}
-use Rattle.roc_cli_nodes.proofs.Named.{nodes_named, child_named, nodes_words, ended_by_journal, keeper_ended, keeper_named, keeper_words}
-use Rattle.roc_cli.proofs.Commands.{of_program, refused_words, input_words, cut_words, fit_names_no_nodes}
+use Rattle.roc_cli_nodes.proofs.Named.{nodes_named, child_named, nodes_words, ended_by_journal, keeper_ended, keeper_named, keeper_words, logger_ended}
+use Rattle.roc_cli.proofs.Commands.{of_program, refused_words, input_words, cut_words, audit_words, refuted_words, fit_names_no_nodes, fit_names_no_logs}
 
 -- ---- one fault, told
 
@@ -41,6 +43,7 @@ module _ (call : RunCall) where
   refused_out _ (bad_cluster files plan fault names planned held same) = with_nothing same
   refused_out _ (long_requests files plan addrs name names planned held is more same) = with_nothing same
   refused_out _ (bad_requests files plan addrs name number what names planned held is not same) = with_nothing same
+  refused_out _ (bad_logs line refused same) = with_nothing same
 
 -- what a call failed by, with its status and the line on standard error: one rule for each status
 data IsFailure (call : WholeCall) : (status : ℕ) → (line : List ℕ) → Type 0 where
@@ -56,10 +59,12 @@ data IsFailure (call : WholeCall) : (status : ℕ) → (line : List ℕ) → Typ
   cut : CutsOutput call.run ⊎ AreNodesEnded call nodes_end.SinkFault → ReadsAll call.run → IsFailure call 7 (word_line (codes "sink"))
   cut_off : AreNodesEnded call nodes_end.LinkFault → ReadsAll call.run → IsFailure call 8 (word_line (codes "link"))
   child : (shard : Shard) (own : Option ℕ) → IsChildBlamed call shard own → ReadsAll call.run → IsFailure call 9 (child_line shard.0 own)
+  refuted : Refutes call.run → ReadsAll call.run → IsFailure call 12 (line_of Refuted)
+  book : (name : List ℕ) → IsBookBlamed call name → ReadsAll call.run → IsFailure call 13 (book_line name)
 
--- a failure that was said, but for that of status 1 or 5, which is not said on standard error
+-- a failure that was said, but for that of status 1, 5 or 12, which is not said on standard error
 abbrev SaysUnlessSilent : Errors → (status : ℕ) → (line : List ℕ) → Type 0
-SaysUnlessSilent err status line = (status ≡ 1 → ⊥) → (status ≡ 5 → ⊥) → Says err line
+SaysUnlessSilent err status line = (status ≡ 1 → ⊥) → (status ≡ 5 → ⊥) → (status ≡ 12 → ⊥) → Says err line
 
 record IsSaid (call : WholeCall) (err : Errors) (status : ℕ) : Type 0 where
   line : List ℕ
@@ -68,12 +73,16 @@ record IsSaid (call : WholeCall) (err : Errors) (status : ℕ) : Type 0 where
 
 module _ (call : WholeCall) (err : Errors) where
   ended : (status n : ℕ) (line : List ℕ) → status ≡ n → Says err line → IsFailure call n line → IsSaid call err status
-  ended status n line e says is = record { line = line; is = subst (λ (m : ℕ). IsFailure call m line) (sym e) is; says = λ _ _. says }
+  ended status n line e says is = record { line = line; is = subst (λ (m : ℕ). IsFailure call m line) (sym e) is; says = λ _ _ _. says }
 
   -- one that is not said on standard error
-  silent : (status n : ℕ) (line : List ℕ) → status ≡ n → (n ≡ 1) ⊎ (n ≡ 5) → IsFailure call n line → IsSaid call err status
-  silent status n line e (inl f) is = record { line = line; is = subst (λ (m : ℕ). IsFailure call m line) (sym e) is; says = λ one five. absurd (one (e ∙ f)) }
-  silent status n line e (inr f) is = record { line = line; is = subst (λ (m : ℕ). IsFailure call m line) (sym e) is; says = λ one five. absurd (five (e ∙ f)) }
+  silent : (status n : ℕ) (line : List ℕ) → status ≡ n → (n ≡ 1) ⊎ ((n ≡ 5) ⊎ (n ≡ 12)) → IsFailure call n line → IsSaid call err status
+  silent status n line e among is = record { line = line; is = subst (λ (m : ℕ). IsFailure call m line) (sym e) is; says = none among }
+    where
+      none : (n ≡ 1) ⊎ ((n ≡ 5) ⊎ (n ≡ 12)) → SaysUnlessSilent err status line
+      none (inl f) one five twelve = absurd (one (e ∙ f))
+      none (inr (inl f)) one five twelve = absurd (five (e ∙ f))
+      none (inr (inr f)) one five twelve = absurd (twelve (e ∙ f))
 
   -- a refused file, told, if only as want of memory
   said_refused : (status : ℕ) (line : List ℕ) → IsRefused call.run line → ReadsAll call.run → EndsWith 3 line status err ⊎ EndsWith 4 (line_of Memory) status err → IsSaid call err status
@@ -95,6 +104,8 @@ module _ (call : WholeCall) (err : Errors) where
   said (Journal file) status h read told = absurd h
   said (Disk file) status h read told = absurd h
   said (Full file) status h read told = absurd h
+  said (Book file) status h read told = absurd h
+  said Refuted status h read e = silent status 12 (line_of Refuted) e (inr (inr refl)) (refuted h read)
   said fault status h read told = said_refused status (line_of fault) h read told
 
   said_child : (status : ℕ) (shard : Shard) (own : Option ℕ) → IsChildBlamed call shard own → ReadsAll call.run
@@ -104,7 +115,7 @@ module _ (call : WholeCall) (err : Errors) where
 
   said_of_nodes : (fault : Fault) (status : ℕ) → LoopEnded (AreNodesEnded call) (IsChildBlamed call) (Err fault) → Blames call.run.files.failed_old call.run.files.failed_new fault → IsTold fault status err → IsSaid call err status
   said_of_nodes Memory status h read (e, says) = ended status 4 (line_of Memory) e says (memory (inr (inl h)) read)
-  said_of_nodes Unanswered status h read e = silent status 5 (line_of Unanswered) e (inr refl) (unanswered h read)
+  said_of_nodes Unanswered status h read e = silent status 5 (line_of Unanswered) e (inr (inl refl)) (unanswered h read)
   said_of_nodes Sink status h read (e, says) = ended status 7 (line_of Sink) e says (cut (inr h) read)
   said_of_nodes Link status h read (e, says) = ended status 8 (line_of Link) e says (cut_off h read)
   said_of_nodes (Child shard own) status h read told = said_child status shard own h read told
@@ -112,6 +123,7 @@ module _ (call : WholeCall) (err : Errors) where
       ended status 3 (line_of (Journal file)) e says (no_journal file.now (ended_by_journal call (nodes_end.Journal file.now) h) read)
   said_of_nodes (Disk file) status h read (e, says) = ended status 10 (line_of (Disk file)) e says (disk file.now (ended_by_journal call (nodes_end.DiskFault file.now) h) read)
   said_of_nodes (Full file) status h read (e, says) = ended status 11 (line_of (Full file)) e says (full file.now (ended_by_journal call (nodes_end.Full file.now) h) read)
+  said_of_nodes (Book file) status h read (e, says) = ended status 13 (line_of (Book file)) e says (book file.now (ended_by_journal call (nodes_end.BookFault file.now) h) read)
   said_of_nodes _ status h blames told = absurd h
 
   said_whole : (fault : Fault) (status : ℕ) → WholeEnds call (Err fault) → Blames call.run.files.failed_old call.run.files.failed_new fault → IsTold fault status err → IsSaid call err status
@@ -120,7 +132,7 @@ module _ (call : WholeCall) (err : Errors) where
 
   -- ---- what each status says of a failure
 
-  at_most : (status : ℕ) (line : List ℕ) → IsFailure call status line → status ≤ 11
+  at_most : (status : ℕ) (line : List ℕ) → IsFailure call status line → status ≤ 13
   at_most _ _ (rejected h read) = omega arith
   at_most _ _ (no_words said none read) = omega arith
   at_most _ _ (refused line h read) = omega arith
@@ -133,26 +145,43 @@ module _ (call : WholeCall) (err : Errors) where
   at_most _ _ (no_journal name h read) = omega arith
   at_most _ _ (disk name h read) = omega arith
   at_most _ _ (full name h read) = omega arith
+  at_most _ _ (refuted h read) = omega arith
+  at_most _ _ (book name h read) = omega arith
 
   not_done : (A : Type 0) (status : ℕ) (line : List ℕ) → IsFailure call status line → status ≡ 0 → A
   not_done A _ _ (no_words said none read) e = absurd (omega arith)
   not_done A _ _ _ e = absurd (omega arith)
 
-  -- where nothing is wrong with the call
-  at_fitting : (status : ℕ) (line : List ℕ) → IsFailure call status line → (NamesNodes call.run.words → ⊥) → IsFaultless call.run
-      → IsOneOf (0 ∷ 4 ∷ 6 ∷ 7 ∷ []) status
-  at_fitting _ _ (rejected h read) none is = absurd (is.acceptable h)
-  at_fitting _ _ (no_words said refuses read) none is = absurd (is.taken said refuses.1)
-  at_fitting _ _ (refused line h read) none is = absurd (is.right line h)
-  at_fitting _ _ (memory h read) none is = inr (inl refl)
-  at_fitting _ _ (unanswered h read) none is = absurd (none (nodes_named call nodes_end.Unanswered h))
-  at_fitting _ _ (unread name h) none is = inr (inr (inl refl))
-  at_fitting _ _ (cut h read) none is = inr (inr (inr (inl refl)))
-  at_fitting _ _ (cut_off h read) none is = absurd (none (nodes_named call nodes_end.LinkFault h))
-  at_fitting _ _ (child shard own h read) none is = absurd (none (child_named call shard own h))
-  at_fitting _ _ (no_journal name h read) none is = absurd (none (keeper_named call name (serve_end.Journal h.0) h.1))
-  at_fitting _ _ (disk name h read) none is = absurd (none (keeper_named call name serve_end.Disk h))
-  at_fitting _ _ (full name h read) none is = absurd (none (keeper_named call name serve_end.Full h))
+  -- where nothing is wrong with the call, the statuses that may come, and what may be refuted
+  at_fitting : (allowed : List ℕ) (status : ℕ) (line : List ℕ) → IsFailure call status line → (NamesNodes call.run.words → ⊥) → IsFaultless call.run
+      → IsOneOf allowed 4 → IsOneOf allowed 6 → IsOneOf allowed 7 → (Refutes call.run → IsOneOf allowed 12) → IsOneOf allowed status
+  at_fitting allowed _ _ (rejected h read) none is four six seven twelve = absurd (is.acceptable h)
+  at_fitting allowed _ _ (no_words said refuses read) none is four six seven twelve = absurd (is.taken said refuses.1)
+  at_fitting allowed _ _ (refused line h read) none is four six seven twelve = absurd (is.right line h)
+  at_fitting allowed _ _ (memory h read) none is four six seven twelve = four
+  at_fitting allowed _ _ (unanswered h read) none is four six seven twelve = absurd (none (nodes_named call nodes_end.Unanswered h))
+  at_fitting allowed _ _ (unread name h) none is four six seven twelve = six
+  at_fitting allowed _ _ (cut h read) none is four six seven twelve = seven
+  at_fitting allowed _ _ (cut_off h read) none is four six seven twelve = absurd (none (nodes_named call nodes_end.LinkFault h))
+  at_fitting allowed _ _ (child shard own h read) none is four six seven twelve = absurd (none (child_named call shard own h))
+  at_fitting allowed _ _ (no_journal name h read) none is four six seven twelve = absurd (none (keeper_named call name (serve_end.Journal h.0) h.1))
+  at_fitting allowed _ _ (disk name h read) none is four six seven twelve = absurd (none (keeper_named call name serve_end.Disk h))
+  at_fitting allowed _ _ (full name h read) none is four six seven twelve = absurd (none (keeper_named call name serve_end.Full h))
+  at_fitting allowed _ _ (refuted h read) none is four six seven twelve = twelve h
+  at_fitting allowed _ _ (book name h read) none is four six seven twelve = absurd (none (let end = logger_ended call name h in nodes_named call end.0 end.1))
+
+  at_alone : (status : ℕ) (line : List ℕ) → IsFailure call status line → IsFit call.run → IsFaultless call.run → IsOneOf (0 ∷ 4 ∷ 6 ∷ 7 ∷ []) status
+  at_alone status line h fit is =
+      at_fitting (0 ∷ 4 ∷ 6 ∷ 7 ∷ []) status line h (fit_names_no_nodes call.run fit) is (inr (inl refl)) (inr (inr (inl refl))) (inr (inr (inr (inl refl))))
+      (λ r. absurd (fit_names_no_logs call.run fit (refuted_words call.run r)))
+
+  at_audit : (status : ℕ) (line : List ℕ) → IsFailure call status line → IsAuditable call.run → IsOneOf (0 ∷ 4 ∷ 6 ∷ 7 ∷ 12 ∷ []) status
+  at_audit status line h fit =
+      at_fitting (0 ∷ 4 ∷ 6 ∷ 7 ∷ 12 ∷ []) status line h fit.alone fit.is (inr (inl refl)) (inr (inr (inl refl))) (inr (inr (inr (inl refl)))) (λ r. inr (inr (inr (inr (inl refl)))))
+
+  at_honest : (status : ℕ) (line : List ℕ) → IsFailure call status line → IsExplicable call.run → IsOneOf (0 ∷ 4 ∷ 6 ∷ 7 ∷ []) status
+  at_honest status line h fit =
+      at_fitting (0 ∷ 4 ∷ 6 ∷ 7 ∷ []) status line h fit.is.alone fit.is.is (inr (inl refl)) (inr (inr (inl refl))) (inr (inr (inr (inl refl)))) (λ r. absurd (fit.unrefuted r))
 
   at_fitting_nodes : (status : ℕ) (line : List ℕ) → IsFailure call status line → IsFaultless call.run → (status ≡ 0) ⊎ ((4 ≤ status) ⊎ ((name : List ℕ) × RefusesJournal call name))
   at_fitting_nodes _ _ (rejected h read) is = absurd (is.acceptable h)
@@ -167,6 +196,8 @@ module _ (call : WholeCall) (err : Errors) where
   at_fitting_nodes _ _ (child shard own h read) is = inr (inl (omega arith))
   at_fitting_nodes _ _ (disk name h read) is = inr (inl (omega arith))
   at_fitting_nodes _ _ (full name h read) is = inr (inl (omega arith))
+  at_fitting_nodes _ _ (refuted h read) is = inr (inl (omega arith))
+  at_fitting_nodes _ _ (book name h read) is = inr (inl (omega arith))
 
   at_rejected : (status : ℕ) (line : List ℕ) → IsFailure call status line → status ≡ 1 → Rejects call.run
   at_rejected _ _ (rejected h read) e = h
@@ -174,18 +205,18 @@ module _ (call : WholeCall) (err : Errors) where
 
   at_words : (status : ℕ) (line : List ℕ) → IsFailure call status line → SaysUnlessSilent err status line → status ≡ 2
       → TakesNothing call.run × (said : List ℕ) × AreRefusedWords call.run said × Says err said
-  at_words _ _ (no_words said none read) says e = (none.0, said, none.1, says (λ f. absurd (omega arith)) (λ f. absurd (omega arith)))
+  at_words _ _ (no_words said none read) says e = (none.0, said, none.1, says (λ f. absurd (omega arith)) (λ f. absurd (omega arith)) (λ f. absurd (omega arith)))
   at_words _ _ _ says e = absurd (omega arith)
 
   at_refused : (status : ℕ) (line : List ℕ) → IsFailure call status line → SaysUnlessSilent err status line → status ≡ 3
       → ((said : List ℕ) × IsRefused call.run said × Says err said) ⊎ ((name : List ℕ) × RefusesJournal call name × Says err (journal_line name))
-  at_refused _ _ (refused line h read) says e = inl (line, h, says (λ f. absurd (omega arith)) (λ f. absurd (omega arith)))
-  at_refused _ _ (no_journal name h read) says e = inr (name, h, says (λ f. absurd (omega arith)) (λ f. absurd (omega arith)))
+  at_refused _ _ (refused line h read) says e = inl (line, h, says (λ f. absurd (omega arith)) (λ f. absurd (omega arith)) (λ f. absurd (omega arith)))
+  at_refused _ _ (no_journal name h read) says e = inr (name, h, says (λ f. absurd (omega arith)) (λ f. absurd (omega arith)) (λ f. absurd (omega arith)))
   at_refused _ _ _ says e = absurd (omega arith)
 
   at_memory : (status : ℕ) (line : List ℕ) → IsFailure call status line → SaysUnlessSilent err status line → status ≡ 4
       → (RunsOut call.run ⊎ (AreNodesEnded call nodes_end.NoMemory ⊎ BlamesAnyChild call)) × Says err (word_line (codes "memory"))
-  at_memory _ _ (memory h read) says e = (h, says (λ f. absurd (omega arith)) (λ f. absurd (omega arith)))
+  at_memory _ _ (memory h read) says e = (h, says (λ f. absurd (omega arith)) (λ f. absurd (omega arith)) (λ f. absurd (omega arith)))
   at_memory _ _ _ says e = absurd (omega arith)
 
   at_unanswered : (status : ℕ) (line : List ℕ) → IsFailure call status line → status ≡ 5 → AreNodesEnded call nodes_end.Unanswered
@@ -193,32 +224,40 @@ module _ (call : WholeCall) (err : Errors) where
   at_unanswered _ _ _ e = absurd (omega arith)
 
   at_unread : (status : ℕ) (line : List ℕ) → IsFailure call status line → SaysUnlessSilent err status line → status ≡ 6 → (name : List ℕ) × IsUnread call.run name × Says err (file_line name)
-  at_unread _ _ (unread name h) says e = (name, h, says (λ f. absurd (omega arith)) (λ f. absurd (omega arith)))
+  at_unread _ _ (unread name h) says e = (name, h, says (λ f. absurd (omega arith)) (λ f. absurd (omega arith)) (λ f. absurd (omega arith)))
   at_unread _ _ _ says e = absurd (omega arith)
 
   at_cut : (status : ℕ) (line : List ℕ) → IsFailure call status line → SaysUnlessSilent err status line → status ≡ 7
       → (CutsOutput call.run ⊎ AreNodesEnded call nodes_end.SinkFault) × Says err (word_line (codes "sink"))
-  at_cut _ _ (cut h read) says e = (h, says (λ f. absurd (omega arith)) (λ f. absurd (omega arith)))
+  at_cut _ _ (cut h read) says e = (h, says (λ f. absurd (omega arith)) (λ f. absurd (omega arith)) (λ f. absurd (omega arith)))
   at_cut _ _ _ says e = absurd (omega arith)
 
   at_cut_off : (status : ℕ) (line : List ℕ) → IsFailure call status line → SaysUnlessSilent err status line → status ≡ 8 → AreNodesEnded call nodes_end.LinkFault × Says err (word_line (codes "link"))
-  at_cut_off _ _ (cut_off h read) says e = (h, says (λ f. absurd (omega arith)) (λ f. absurd (omega arith)))
+  at_cut_off _ _ (cut_off h read) says e = (h, says (λ f. absurd (omega arith)) (λ f. absurd (omega arith)) (λ f. absurd (omega arith)))
   at_cut_off _ _ _ says e = absurd (omega arith)
 
   at_child : (status : ℕ) (line : List ℕ) → IsFailure call status line → SaysUnlessSilent err status line → status ≡ 9
       → (shard : Shard) × (own : Option ℕ) × IsChildBlamed call shard own × Says err (child_line shard.0 own)
-  at_child _ _ (child shard own h read) says e = (shard, own, h, says (λ f. absurd (omega arith)) (λ f. absurd (omega arith)))
+  at_child _ _ (child shard own h read) says e = (shard, own, h, says (λ f. absurd (omega arith)) (λ f. absurd (omega arith)) (λ f. absurd (omega arith)))
   at_child _ _ _ says e = absurd (omega arith)
 
   at_disk : (status : ℕ) (line : List ℕ) → IsFailure call status line → SaysUnlessSilent err status line → status ≡ 10
       → (name : List ℕ) × IsServedWith call name serve_end.Disk × Says err (disk_line name)
-  at_disk _ _ (disk name h read) says e = (name, h, says (λ f. absurd (omega arith)) (λ f. absurd (omega arith)))
+  at_disk _ _ (disk name h read) says e = (name, h, says (λ f. absurd (omega arith)) (λ f. absurd (omega arith)) (λ f. absurd (omega arith)))
   at_disk _ _ _ says e = absurd (omega arith)
 
   at_full : (status : ℕ) (line : List ℕ) → IsFailure call status line → SaysUnlessSilent err status line → status ≡ 11
       → (name : List ℕ) × IsServedWith call name serve_end.Full × Says err (full_line name)
-  at_full _ _ (full name h read) says e = (name, h, says (λ f. absurd (omega arith)) (λ f. absurd (omega arith)))
+  at_full _ _ (full name h read) says e = (name, h, says (λ f. absurd (omega arith)) (λ f. absurd (omega arith)) (λ f. absurd (omega arith)))
   at_full _ _ _ says e = absurd (omega arith)
+
+  at_refuted : (status : ℕ) (line : List ℕ) → IsFailure call status line → status ≡ 12 → Refutes call.run
+  at_refuted _ _ (refuted h read) e = h
+  at_refuted _ _ _ e = absurd (omega arith)
+
+  at_book : (status : ℕ) (line : List ℕ) → IsFailure call status line → SaysUnlessSilent err status line → status ≡ 13 → (name : List ℕ) × IsBookBlamed call name × Says err (book_line name)
+  at_book _ _ (book name h read) says e = (name, h, says (λ f. absurd (omega arith)) (λ f. absurd (omega arith)) (λ f. absurd (omega arith)))
+  at_book _ _ _ says e = absurd (omega arith)
 
   at_others : (status : ℕ) (line : List ℕ) → IsFailure call status line → (status ≡ 6 → ⊥) → ReadsAll call.run
   at_others _ _ (rejected h read) other = read
@@ -233,6 +272,8 @@ module _ (call : WholeCall) (err : Errors) where
   at_others _ _ (no_journal name h read) other = read
   at_others _ _ (disk name h read) other = read
   at_others _ _ (full name h read) other = read
+  at_others _ _ (refuted h read) other = read
+  at_others _ _ (book name h read) other = read
 
   -- words that are none of a command's: only refused words and want of memory
   of_words : (status : ℕ) (line : List ℕ) → IsFailure call status line → (AreCommandWords call.run.words → ⊥) → IsOneOf (2 ∷ 4 ∷ []) status
@@ -249,6 +290,8 @@ module _ (call : WholeCall) (err : Errors) where
   of_words _ _ (no_journal name h read) none = absurd (none (keeper_words call name (serve_end.Journal h.0) h.1))
   of_words _ _ (disk name h read) none = absurd (none (keeper_words call name serve_end.Disk h))
   of_words _ _ (full name h read) none = absurd (none (keeper_words call name serve_end.Full h))
+  of_words _ _ (refuted h read) none = absurd (none (audit_words call.run.words (refuted_words call.run h)))
+  of_words _ _ (book name h read) none = let end = logger_ended call name h in absurd (none (nodes_words call end.0 end.1))
 
   -- a shard that the workload lacks
   of_missing : (status : ℕ) (line : List ℕ) → IsFailure call status line → IsShardless call → IsOneOf (2 ∷ 4 ∷ 6 ∷ []) status
@@ -265,6 +308,8 @@ module _ (call : WholeCall) (err : Errors) where
   of_missing _ _ (no_journal name h read) is = absurd (is.unrun _ (keeper_ended call name (serve_end.Journal h.0) h.1))
   of_missing _ _ (disk name h read) is = absurd (is.unrun _ (keeper_ended call name serve_end.Disk h))
   of_missing _ _ (full name h read) is = absurd (is.unrun _ (keeper_ended call name serve_end.Full h))
+  of_missing _ _ (refuted h read) is = absurd (is.unrefuted h)
+  of_missing _ _ (book name h read) is = let end = logger_ended call name h in absurd (is.unrun end.0 end.1)
 
   -- where nothing was done, the statuses that may come of a workload that is rejected, of a file that is refused and of what could not be written
   of_undone : (allowed : List ℕ) (status : ℕ) (line : List ℕ) → IsFailure call status line → IsUndone call
@@ -283,6 +328,8 @@ module _ (call : WholeCall) (err : Errors) where
   of_undone allowed _ _ (no_journal name h read) is one three seven four six = absurd (is.unrun _ (keeper_ended call name (serve_end.Journal h.0) h.1))
   of_undone allowed _ _ (disk name h read) is one three seven four six = absurd (is.unrun _ (keeper_ended call name serve_end.Disk h))
   of_undone allowed _ _ (full name h read) is one three seven four six = absurd (is.unrun _ (keeper_ended call name serve_end.Full h))
+  of_undone allowed _ _ (refuted h read) is one three seven four six = absurd (is.unrefuted h)
+  of_undone allowed _ _ (book name h read) is one three seven four six = let end = logger_ended call name h in absurd (is.unrun end.0 end.1)
 
   of_planless : (status : ℕ) (line : List ℕ) → IsFailure call status line → IsUnplanned call → IsOneOf (1 ∷ 4 ∷ 6 ∷ 7 ∷ []) status
   of_planless status line h lacks =
@@ -305,12 +352,15 @@ module _ (call : WholeCall) (err : Errors) where
         printed = not_done (ArePrintWords call.run.words → Prints call.run) status h.line h.is;
         checked = not_done (AreCheckWords call.run.words → Checks call.run) status h.line h.is;
         generated = not_done (AreGenWords call.run.words → Generates call.run) status h.line h.is;
-        served = not_done (AreServeWords call.run.words → ServeEnded call.run call.link call.disk serve_end.Done) status h.line h.is;
-        submitted = not_done (AreSubmitWords call.run.words → SubmitEnded call.run call.link submit_end.Done) status h.line h.is;
+        audited = not_done (AreAuditWords call.run.words → Audits call.run) status h.line h.is;
+        served = not_done (AreServeWords call.run.words → ServeEnded call.run call.link call.disk call.book serve_end.Done) status h.line h.is;
+        submitted = not_done (AreSubmitWords call.run.words → SubmitEnded call.run call.link call.book submit_end.Done) status h.line h.is;
         stopped = not_done (AreStopWords call.run.words → StopEnded call.run call.link stop_end.Done) status h.line h.is;
         ran = not_done (AreLocalWords call.run.words → LocalEnded call.run call.link call.children local_end.Done) status h.line h.is;
         childless = not_done (call.children.faults_new ≡ call.children.faults_old) status h.line h.is;
-        complete = λ fit. at_fitting status h.line h.is (fit_names_no_nodes call.run fit) (laws.files fit);
+        complete = λ fit. at_alone status h.line h.is fit (laws.files fit);
+        complete_audit = λ fit. at_audit status h.line h.is (laws.audits fit);
+        honest = λ fit. at_honest status h.line h.is (laws.honest fit);
         complete_nodes = λ fit. at_fitting_nodes status h.line h.is (laws.nodes fit);
         rejected = at_rejected status h.line h.is;
         no_plan = λ lacks. of_planless status h.line h.is (laws.planless lacks);
@@ -320,6 +370,7 @@ module _ (call : WholeCall) (err : Errors) where
         refused = at_refused status h.line h.is h.says;
         no_workload = λ lacks. of_workloadless status h.line h.is (laws.workloadless lacks);
         no_schedule = λ lacks. of_scheduleless status h.line h.is (laws.scheduleless lacks);
+        no_logs = λ lacks. of_workloadless status h.line h.is (laws.logless lacks);
         memory = at_memory status h.line h.is h.says;
         unanswered = at_unanswered status h.line h.is;
         unread = at_unread status h.line h.is h.says;
@@ -329,4 +380,6 @@ module _ (call : WholeCall) (err : Errors) where
         child = at_child status h.line h.is h.says;
         disk = at_disk status h.line h.is h.says;
         full = at_full status h.line h.is h.says;
+        refuted = at_refuted status h.line h.is;
+        unlogged = at_book status h.line h.is h.says;
       }

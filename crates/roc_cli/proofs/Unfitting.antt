@@ -12,19 +12,20 @@ use Rattle.roc_replay.specs.declared.asked.BoundLine.{BoundLine}
 use Rattle.roc_replay.specs.BoundLine.{IsScheduleOf}
 use Rattle.roc_replay.specs.Played.{AsksOnlySent}
 use Rattle.roc_cli_words.specs.declared.value.Part.{Part}
-use Rattle.roc_cli_words.specs.Commands.{Command, check, print, replay, serve, submit, stop, local, gen}
+use Rattle.roc_cli_words.specs.Commands.{Command, check, print, replay, serve, submit, stop, local, gen, audit}
 use Rattle.roc_cli_words.specs.Answer.{AreWordsOf}
 use Rattle.roc_cli_nodes.specs.Call.{RunCall, WholeCall}
 use Rattle.roc_cli_nodes.specs.Words.{IsPrint, IsGen, node_files, program_of, workload_of, NamesProgram, NamesWorkload, NamesNodeFiles}
 use Rattle.roc_cli_nodes.specs.NodeEnds.{NodesEnd}
 use Rattle.roc_cli_nodes.specs.Nodes.{AreNodesEnded, IsChildBlamed}
 use Rattle.roc_cli_files.specs.Held.{NodeFiles, Holds, HoldsPlan, HoldsText, HoldsRejected}
-use Rattle.roc_cli.specs.Stopped.{CutsOutput, in_report, in_text, in_check, in_rejection, in_generated}
-use Rattle.roc_cli.specs.Refused.{AreRefusedWords, by_clap, no_value, no_shard, IsRefused, long_workload, no_text, out_of_scope, long_schedule, bad_schedule, long_cluster, bad_cluster, long_requests, bad_requests}
+use Rattle.roc_cli.specs.Stopped.{CutsOutput, in_report, in_text, in_check, in_rejection, in_generated, in_verdict}
+use Rattle.roc_cli.specs.Refused.{AreRefusedWords, by_clap, no_value, no_shard, IsRefused, long_workload, no_text, out_of_scope, long_schedule, bad_schedule, long_cluster, bad_cluster, long_requests, bad_requests, bad_logs}
 use Rattle.roc_cli.specs.Unfit as unfit
 use Rattle.roc_cli.specs.Unfit.{LacksPlan, LacksWorkload, LacksSchedule}
 use Rattle.roc_cli.specs.Inner.Ends.{Ends}
 use Rattle.roc_cli.specs.Inner.Faultless.{IsUndone, IsUnplanned, IsUnwritten, IsUnplayed}
+use Rattle.roc_cli.proofs.Commands.{not_audit, audited_words, refuted_words, logs_planned}
 use Rattle.roc_cli_nodes.proofs.Naming.{unlike, same_name, no_name, as_workload, as_program, replay_schedule}
 use Rattle.roc_cli_nodes.proofs.Named.{nodes_named, child_named}
 use Rattle.roc_cli.specs.Inner.Texts.{TextLaws}
@@ -50,8 +51,8 @@ module _ (call : WholeCall) (no : HoldsNoPlan call.run) where
   of_nodes workload bytes plan named held planned = no.planless workload plan named (record { bytes = bytes; held = held; is = planned })
 
   planless_unrun : (end : NodesEnd) → AreNodesEnded call end → ⊥
-  planless_unrun end (inl (own, h, e)) = of_nodes h.workload h.bytes h.plan (serve h.workload h.cluster h.shard h.turns h.counts h.journal, h.given, refl) h.held.of_workload h.held.planned
-  planless_unrun end (inr (inl (own, e, h))) = of_nodes h.workload h.bytes h.plan (submit h.workload h.cluster h.listed h.coord h.turns, h.given, refl) h.held.of_workload h.held.planned
+  planless_unrun end (inl (own, h, e)) = of_nodes h.workload h.bytes h.plan (serve h.workload h.cluster h.shard h.turns h.counts h.journal h.log, h.given, refl) h.held.of_workload h.held.planned
+  planless_unrun end (inr (inl (own, h, e))) = of_nodes h.workload h.bytes h.plan (submit h.workload h.cluster h.listed h.coord h.turns h.log, h.given, refl) h.held.of_workload h.held.planned
   planless_unrun end (inr (inr (inl (own, e, h)))) = of_nodes h.workload h.bytes h.plan (stop h.workload h.cluster, h.given, refl) h.held.of_workload h.held.planned
   planless_unrun end (inr (inr (inr (own, e, h)))) = of_nodes h.workload h.bytes h.plan (local h.workload h.cluster h.listed h.turns, h.given, refl) h.held.of_workload h.held.planned
 
@@ -64,10 +65,17 @@ module _ (call : WholeCall) (no : HoldsNoPlan call.run) where
   planless_undone (inl done) = no.planless done.asked.workload done.plan (replay done.asked.workload done.asked.schedule, done.asked.given, refl) done.asked.of_workload
   planless_undone (inr (inl done)) = no.unprinted done.workload done.tree done.given done.held
   planless_undone (inr (inr (inl done))) = no.planless done.workload done.plan (check done.workload, done.given, refl) done.held
-  planless_undone (inr (inr (inr done))) = no.ungenerated done.seed done.shards done.txns done.part done.given
+  planless_undone (inr (inr (inr (inl done)))) = no.ungenerated done.seed done.shards done.txns done.part done.given
+  planless_undone (inr (inr (inr (inr done)))) = no.planless _ done.plan (audit _ _, done.asked.asked.given, refl) done.asked.asked.of_workload
 
   without_plan : IsUndone call
-  without_plan = record { taken = planless_taken; unrun = planless_unrun; no_child = planless_child; undone = planless_undone }
+  without_plan = record {
+    taken = planless_taken;
+    unrun = planless_unrun;
+    no_child = planless_child;
+    undone = planless_undone;
+    unrefuted = λ h. no.planless _ h.plan (audit _ _, h.asked.asked.given, refl) h.asked.asked.of_workload;
+  }
 
   -- where nothing is rejected either, nothing was due to be written
   without_text : ((name : List ℕ) (program : Workload) (said : Line) → NamesProgram call.run.words name → HoldsRejected call.run.files.content name program said → ⊥) → IsUnwritten call
@@ -79,6 +87,7 @@ module _ (call : WholeCall) (no : HoldsNoPlan call.run) where
       uncut (in_check workload plan given held front) = no.planless workload plan (check workload, given, refl) held
       uncut (in_rejection workload program said names held front) = unrejected workload program said names held
       uncut (in_generated seed shards txns part text given generated front) = no.ungenerated seed shards txns part given
+      uncut (in_verdict plan logs asked verdict is front) = no.planless _ plan (audit _ _, asked.asked.given, refl) asked.asked.of_workload
 
 -- ---- a workload that is not acceptable
 
@@ -117,6 +126,7 @@ module _ (laws : TextLaws) (call : WholeCall) (lacks : LacksPlan call.run) where
   unrefused _ (bad_cluster files plan fault names planned held same) = no_plan_held files.workload plan (as_program call.run.words files names) planned
   unrefused _ (long_requests files plan addrs name names planned held is more same) = no_plan_held files.workload plan (as_program call.run.words files names) planned
   unrefused _ (bad_requests files plan addrs name number what names planned held is not same) = no_plan_held files.workload plan (as_program call.run.words files names) planned
+  unrefused _ (bad_logs line refused same) = let of = logs_planned call.run line refused in no_plan_held of.0 of.1 of.2 of.3
 
   pub unplanned : IsUnplanned call
   unplanned = record { is = without_plan call no_plan; right = unrefused }
@@ -188,7 +198,8 @@ module _ (laws : TextLaws) (call : WholeCall) (lacks : LacksSchedule call.run) w
       (subst (λ (p : Plan). AsksOnlySent p lines) e (laws.sent done.plan lines done.run.steps done.run.world done.run.played))
   unplayed_undone (inr (inl done)) = unlike ⊥ call.run.words (print done.workload) (replay lacks.workload lacks.schedule) done.given lacks.given refl
   unplayed_undone (inr (inr (inl done))) = unlike ⊥ call.run.words (check done.workload) (replay lacks.workload lacks.schedule) done.given lacks.given refl
-  unplayed_undone (inr (inr (inr done))) = unlike ⊥ call.run.words (gen done.seed done.shards done.txns done.part) (replay lacks.workload lacks.schedule) done.given lacks.given refl
+  unplayed_undone (inr (inr (inr (inl done)))) = unlike ⊥ call.run.words (gen done.seed done.shards done.txns done.part) (replay lacks.workload lacks.schedule) done.given lacks.given refl
+  unplayed_undone (inr (inr (inr (inr done)))) = not_audit ⊥ call.run.words (replay lacks.workload lacks.schedule) lacks.given refl (audited_words call.run done)
 
   pub unplayed : IsUnplayed call
   unplayed = record {
@@ -197,6 +208,7 @@ module _ (laws : TextLaws) (call : WholeCall) (lacks : LacksSchedule call.run) w
       unrun = λ end h. (let named = nodes_named call end h in alone named.0 named.1);
       no_child = λ shard status h. (let named = child_named call shard status h in alone named.0 named.1);
       undone = unplayed_undone;
+      unrefuted = λ h. not_audit ⊥ call.run.words (replay lacks.workload lacks.schedule) lacks.given refl (refuted_words call.run h);
     };
     acceptable = λ h. not_rejected laws call.run.files.content lacks.workload lacks.bytes lacks.held lacks.plan lacks.planned h.workload h.program h.said (its_workload h.workload h.named) h.held;
   }

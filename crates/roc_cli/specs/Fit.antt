@@ -1,5 +1,6 @@
 -- Words and files for which a command is done: docs/FORMATS.md, "The program"
-use Rattle.std.specs.Prelude.{◌≡◌, ◌⊎◌, ℕ, ◌≤◌, List, length, Option, Some, IfSome}
+use Rattle.std.specs.Prelude.{◌≡◌, ◌⊎◌, ℕ, ◌≤◌, List, [], ◌∷◌, ◌++◌, length, Option, Some, IfSome}
+use Rattle.roc_base.specs.declared.node.Node.{Node}
 use Rattle.roc_io.specs.declared.link.Addr.{Addr}
 use Rattle.roc_lang.specs.Grammar.{text_limit}
 use Rattle.roc_program.specs.Program.{Workload}
@@ -13,9 +14,13 @@ use Rattle.roc_check.specs.Checked.{IsPlanOfText}
 use Rattle.roc_replay.specs.declared.asked.BoundLine.{BoundLine}
 use Rattle.roc_replay.specs.BoundLine.{IsScheduleOf}
 use Rattle.roc_replay.specs.Played.{AsksOnlySent}
+use Rattle.roc_log.specs.declared.line.Log.{Log}
+use Rattle.roc_log.specs.Logs.{IsLog}
+use Rattle.roc_auditor.specs.Verdict.{HaveNoGap}
 use Rattle.roc_cli_nodes.specs.Call.{RunCall}
-use Rattle.roc_cli_nodes.specs.Words.{IsReplay, IsPrint, IsCheck, AreGenWords, NamesNodeFiles}
-use Rattle.roc_cli_files.specs.Held.{NodeFiles, HasShard}
+use Rattle.roc_cli_nodes.specs.Words.{IsReplay, IsPrint, IsCheck, IsAudit, AreGenWords, NamesNodeFiles}
+use Rattle.roc_cli_files.specs.Held.{NodeFiles, HasShard, most_log_bytes}
+use Rattle.roc_cli_files.specs.NodeNames.{tag_of_bytes}
 use Rattle.roc_cli_files.specs.Requests.{AreRequestsOf}
 
 -- the name holds a request file whose requests fit the program
@@ -86,6 +91,37 @@ pub record MissesShard (call : RunCall) : Type 0 where
   pub number : ℕ
   pub asked : right.files.shard ≡ Some number
   pub past : right.plan.program.shards ≤ number
+
+-- the name holds a log with this tag, of a node that is none of those seen
+pub record TellsLog (content : List ℕ → Option (List ℕ)) (name : List ℕ) (program : Workload) (tag : List ℕ) (seen : List Node) (log : Log) : Type 0 where
+  pub text : List ℕ
+  pub told : content name ≡ Some text
+  pub few : length text ≤ most_log_bytes
+  pub is : IsLog program tag seen text log
+
+-- the names hold these logs, one by one, each of a node that is none of those seen and of those of the logs before it
+abbrev pub TellLogs : (List ℕ → Option (List ℕ)) → Workload → (tag : List ℕ) → (seen : List Node) → (names : List (List ℕ)) → List Log → Type 0
+TellLogs content program tag seen [] [] = Unit {0}
+TellLogs content program tag seen [] (log ∷ logs) = ⊥
+TellLogs content program tag seen (name ∷ names) [] = ⊥
+TellLogs content program tag seen (name ∷ names) (log ∷ logs) = TellsLog content name program tag seen log × TellLogs content program tag (seen ++ log.node ∷ []) names logs
+
+-- the words ask for an audit of files with these names; the named workload has this plan, and its file holds these bytes
+pub record AuditAsked (call : RunCall) (names : List (List ℕ)) : Type 0 where
+  pub workload : List ℕ
+  pub given : IsAudit call.words workload names
+  pub bytes : List ℕ
+  pub held : call.files.content workload ≡ Some bytes
+  pub plan : Plan
+  pub planned : IsPlanOfText bytes plan
+
+-- ..and the named files hold logs, among them one of the server of each shard
+pub record AuditFits (call : RunCall) : Type 0 where
+  pub names : List (List ℕ)
+  pub asked : AuditAsked call names
+  pub logs : List Log
+  pub told : TellLogs call.files.content asked.plan.program (tag_of_bytes asked.bytes) [] names logs
+  pub whole : HaveNoGap asked.plan logs
 
 -- a command of one or two files; generated load needs none
 abbrev pub IsFit : RunCall → Type 0

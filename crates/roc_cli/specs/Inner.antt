@@ -1,3 +1,4 @@
 pub mod Ends
+pub mod Auditing
 pub mod Faultless
 pub mod Texts

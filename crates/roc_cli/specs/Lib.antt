@@ -1,7 +1,9 @@
 pub mod Done
+pub mod Audited
 pub mod Refused
 pub mod Stopped
 pub mod Fit
+pub mod Honest
 pub mod Unfit
 pub mod Status
 pub mod Inner

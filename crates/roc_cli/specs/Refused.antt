@@ -5,7 +5,12 @@ use Rattle.roc_lang.specs.Grammar.{text_limit}
 use Rattle.roc_lang.specs.Scope.{Fault}
 use Rattle.roc_lang.specs.declared.fault.What.{What}
 use Rattle.roc_lang_scope.specs.FaultText.{kind_text}
+use Rattle.roc_base.specs.declared.node.Shard.{Shard}
 use Rattle.roc_plan.specs.Groups.{Plan}
+use Rattle.roc_log.specs.declared.fault.What.{What as LogWhat}
+use Rattle.roc_log.specs.declared.line.Log.{Log}
+use Rattle.roc_log.specs.FaultText.{what_text as log_text}
+use Rattle.roc_auditor.specs.Verdict.{nodes_of, IsGap}
 use Rattle.roc_sched.specs.Schedule.{most_bytes}
 use Rattle.roc_io.specs.declared.link.Addr.{Addr}
 use Rattle.roc_cluster.specs.declared.fault.ClusterFault.{ClusterFault}
@@ -21,16 +26,27 @@ use Rattle.roc_node_serve.specs.declared.ends.ServeEnd.TheVariants as serve_end
 use Rattle.roc_cli_nodes.specs.Call.{RunCall, WholeCall, TakesNothing}
 use Rattle.roc_cli_nodes.specs.Words.{IsReplay, NamesProgram, NamesWorkload, NamesNodeFiles}
 use Rattle.roc_cli_nodes.specs.Nodes.{IsServedWith}
-use Rattle.roc_cli_files.specs.Held.{NodeFiles, HoldsMore, HoldsFault, HoldsMisuse, HoldsPlan, HoldsCluster, HoldsNoCluster, HoldsNoRequests, LacksShard}
+use Rattle.roc_cli_files.specs.Held.{NodeFiles, HoldsMore, HoldsFault, HoldsMisuse, HoldsPlan, HoldsCluster, HoldsNoCluster, HoldsNoRequests, LacksShard, HoldLogs, HoldsNoLog, most_log_bytes}
 use Rattle.roc_cli.specs.Done.{IsReplayOf}
-use Rattle.roc_cli_files.specs.Says.{word_line, long_line, text_line, fault_line}
+use Rattle.roc_cli.specs.Audited.{ComesToLog, IsAuditUnder, tag_under}
+use Rattle.roc_cli_files.specs.Says.{word_line, long_line, text_line, fault_line, gap_line}
 
 -- words that are refused, with what is said on standard error: the text of `clap`, which no clause tells, where it refuses them; or the name
--- of the first value that is none; or `shard`, where the files hold what is needed and the shard that is to be served is not one of the workload
+-- of the first value that is none, as of a log beside a journal; or `shard`, where the files hold what is needed and the shard that is to be served is not one of the workload
 pub data AreRefusedWords (call : RunCall) : List ℕ → Type 0 where
   by_clap : (text : List ℕ) → (IsTakenByClap call.words → ⊥) → AreRefusedWords call text
   no_value : (name : ValueName) → HaveNoValue call.words name → AreRefusedWords call (word_line (value_text name))
   no_shard : (files : NodeFiles) → NamesNodeFiles call.words files → LacksShard call.files.content files → AreRefusedWords call (word_line (codes "shard"))
+
+-- the first log that is too long, or that none is of another node than those of the logs before it; or, behind all logs, the least shard whose server
+-- has none
+pub data AreRefusedLogs (call : RunCall) : List ℕ → Type 0 where
+  long_log : (name : List ℕ) (plan : Plan) (logs : List Log) → ComesToLog call name plan logs → HoldsMore call.files.content name most_log_bytes
+      → AreRefusedLogs call (long_line name)
+  bad_log : (name : List ℕ) (plan : Plan) (logs : List Log) (number : ℕ) (what : LogWhat) (comes : ComesToLog call name plan logs)
+      → HoldsNoLog call.files.content name plan.program (tag_under comes.asked) (nodes_of logs) number what → AreRefusedLogs call (fault_line name number (log_text what))
+  no_server : (names : List (List ℕ)) (plan : Plan) (logs : List Log) (shard : Shard) (asked : IsAuditUnder call plan names)
+      → HoldLogs call.files.content names plan (tag_under asked) logs → IsGap plan logs shard → AreRefusedLogs call (gap_line shard.0)
 
 -- the first file that is too long, no text of its grammar or out of scope, or does not fit the plan or the run, with its line on standard
 -- error, and what standard output took before
@@ -55,6 +71,7 @@ pub data IsRefused (call : RunCall) : List ℕ → Type 0 where
   bad_requests : (files : NodeFiles) (plan : Plan) (addrs : List Addr) (name : List ℕ) (number : ℕ) (what : ScheduleWhat) → NamesNodeFiles call.words files
       → HoldsPlan call.files.content files.workload plan → HoldsCluster call.files.content files.cluster plan.program.shards addrs → files.requests ≡ Some name
       → HoldsNoRequests call.files.content name plan.program number what → TakesNothing call → IsRefused call (fault_line name number (schedule_text what))
+  bad_logs : (line : List ℕ) → AreRefusedLogs call line → TakesNothing call → IsRefused call line
 
 -- the words name this journal, the files hold what is needed, and the server takes not all that the journal holds
 abbrev pub RefusesJournal : WholeCall → (name : List ℕ) → Type 0

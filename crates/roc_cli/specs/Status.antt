@@ -7,12 +7,15 @@ use Rattle.roc_base.specs.declared.node.Shard.{Shard}
 use Rattle.roc_node_local.specs.declared.stops.StopEnd.TheVariants as stop_end
 use Rattle.roc_node_local.specs.declared.local.LocalEnd.TheVariants as local_end
 use Rattle.roc_cli_nodes.specs.Call.{WholeCall, TakesNothing, ReadsAll}
-use Rattle.roc_cli_files.specs.Says.{Errors, Says, word_line, journal_line, file_line, child_line, disk_line, full_line}
-use Rattle.roc_cli_nodes.specs.Words.{AreReplayWords, ArePrintWords, AreCheckWords, AreGenWords, AreServeWords, AreSubmitWords, AreStopWords, AreLocalWords, AreCommandWords, NamesJournal, NamesNodes}
+use Rattle.roc_cli_files.specs.Says.{Errors, Says, word_line, journal_line, file_line, child_line, disk_line, full_line, book_line}
+use Rattle.roc_cli_nodes.specs.Words.{AreReplayWords, ArePrintWords, AreCheckWords, AreGenWords, AreAuditWords, AreServeWords, AreSubmitWords, AreStopWords, AreLocalWords}
+use Rattle.roc_cli_nodes.specs.Words.{AreCommandWords, NamesJournal, NamesLog, NamesNodes}
 use Rattle.roc_cli.specs.Done.{Replays, Prints, Checks, Generates, Rejects}
-use Rattle.roc_cli_nodes.specs.Nodes.{ServeEnded, SubmitEnded, StopEnded, LocalEnded, AreNodesEnded, IsServedWith, IsChildBlamed, BlamesAnyChild}
-use Rattle.roc_cli.specs.Fit.{IsFit, NodesFit, MissesShard}
-use Rattle.roc_cli.specs.Unfit.{LacksPlan, LacksWorkload, LacksSchedule}
+use Rattle.roc_cli_nodes.specs.Nodes.{ServeEnded, SubmitEnded, StopEnded, LocalEnded, AreNodesEnded, IsServedWith, IsBookBlamed, IsChildBlamed, BlamesAnyChild}
+use Rattle.roc_cli.specs.Audited.{Audits, Refutes}
+use Rattle.roc_cli.specs.Fit.{IsFit, AuditFits, NodesFit, MissesShard}
+use Rattle.roc_cli.specs.Honest.{HonestFits}
+use Rattle.roc_cli.specs.Unfit.{LacksPlan, LacksWorkload, LacksSchedule, LacksLogs}
 use Rattle.roc_cli.specs.Refused.{AreRefusedWords, IsRefused, RefusesJournal}
 use Rattle.roc_cli.specs.Stopped.{IsUnread, RunsOut, CutsOutput}
 
@@ -23,7 +26,7 @@ IsOneOf (s ∷ statuses) status = (status ≡ s) ⊎ IsOneOf statuses status
 
 -- what the call did, by the status with which it answers
 pub record Answers (call : WholeCall) (err : Errors) (status : ℕ) : Type 0 where
-  pub statuses : status ≤ 11
+  pub statuses : status ≤ 13
   -- 0: the schedule was replayed, and its report was written, which explains itself: every reply that it shows is the one that the serial order
   -- which it shows gives, in real-time order
   pub replayed : status ≡ 0 → AreReplayWords call.run.words → Replays call.run
@@ -32,9 +35,11 @@ pub record Answers (call : WholeCall) (err : Errors) (status : ℕ) : Type 0 whe
   pub checked : status ≡ 0 → AreCheckWords call.run.words → Checks call.run
   -- ..or what was to be generated was written
   pub generated : status ≡ 0 → AreGenWords call.run.words → Generates call.run
+  -- ..or the order was written that explains all that the named logs tell
+  pub audited : status ≡ 0 → AreAuditWords call.run.words → Audits call.run
   -- ..or the shard was served to the end, or each request has its reply
-  pub served : status ≡ 0 → AreServeWords call.run.words → ServeEnded call.run call.link call.disk serve_end.Done
-  pub submitted : status ≡ 0 → AreSubmitWords call.run.words → SubmitEnded call.run call.link submit_end.Done
+  pub served : status ≡ 0 → AreServeWords call.run.words → ServeEnded call.run call.link call.disk call.book serve_end.Done
+  pub submitted : status ≡ 0 → AreSubmitWords call.run.words → SubmitEnded call.run call.link call.book submit_end.Done
   -- ..or the stops were sent
   pub stopped : status ≡ 0 → AreStopWords call.run.words → StopEnded call.run call.link stop_end.Done
   -- ..or servers were started, each request has its reply, and the servers ended well
@@ -42,6 +47,11 @@ pub record Answers (call : WholeCall) (err : Errors) (status : ℕ) : Type 0 whe
   pub childless : status ≡ 0 → call.children.faults_new ≡ call.children.faults_old
   -- a command whose words and files fit is done, unless memory, a file or standard output failed it
   pub complete : IsFit call.run → IsOneOf (0 ∷ 4 ∷ 6 ∷ 7 ∷ []) status
+  -- ..and so is an audit, or finds that the logs are not explained
+  pub complete_audit : AuditFits call.run → IsOneOf (0 ∷ 4 ∷ 6 ∷ 7 ∷ 12 ∷ []) status
+  -- ..which it does not find of the logs of all nodes of one run: one order explains these. Nothing is said of runs in which a server stops and starts again
+  -- or a view is submitted, of logs that are cut or longer than an audit takes, and of the memory that it needs
+  pub honest : HonestFits call.run → IsOneOf (0 ∷ 4 ∷ 6 ∷ 7 ∷ []) status
   -- ..and one with nodes is done, or as far as its turns led, unless the link failed it too, or its journal did or is refused
   pub complete_nodes : NodesFit call.run → (status ≡ 0) ⊎ ((4 ≤ status) ⊎ ((name : List ℕ) × RefusesJournal call name))
   -- 1: exactly where the workload is not acceptable, unless memory, a file or standard output failed it; and the line that says why was written
@@ -52,12 +62,13 @@ pub record Answers (call : WholeCall) (err : Errors) (status : ℕ) : Type 0 whe
   pub no_words : status ≡ 2 → TakesNothing call.run × (line : List ℕ) × AreRefusedWords call.run line × Says err line
   pub words : (AreCommandWords call.run.words → ⊥) → IsOneOf (2 ∷ 4 ∷ []) status
   pub no_shard : MissesShard call.run → IsOneOf (2 ∷ 4 ∷ 6 ∷ []) status
-  -- 3: a file is too long, no text of its grammar, out of scope, or does not fit the plan or the run; or a journal is refused. Exactly so for the workload
-  -- of any command and the schedule of a replay, unless memory or a file failed it before, or standard output at the lines before that of a message
-  -- that was not sent
+  -- 3: a file is too long, no text of its grammar, out of scope, or does not fit the plan or the run; a shard has no log; or a journal is refused. Exactly so
+  -- for the workload of any command, the schedule of a replay and the logs of an audit, unless memory or a file failed it before, or standard output at
+  -- the lines before that of a message that was not sent
   pub refused : status ≡ 3 → ((line : List ℕ) × IsRefused call.run line × Says err line) ⊎ ((name : List ℕ) × RefusesJournal call name × Says err (journal_line name))
   pub no_workload : LacksWorkload call.run → IsOneOf (3 ∷ 4 ∷ 6 ∷ []) status
   pub no_schedule : LacksSchedule call.run → IsOneOf (3 ∷ 4 ∷ 6 ∷ 7 ∷ []) status
+  pub no_logs : LacksLogs call.run → IsOneOf (3 ∷ 4 ∷ 6 ∷ []) status
   -- 4: no memory, if only for the line of status 3 or 9
   pub memory : status ≡ 4 → (RunsOut call.run ⊎ (AreNodesEnded call nodes_end.NoMemory ⊎ BlamesAnyChild call)) × Says err (word_line (codes "memory"))
   -- 5: all turns were taken, and a request is unanswered or was not submitted
@@ -75,11 +86,19 @@ pub record Answers (call : WholeCall) (err : Errors) (status : ℕ) : Type 0 whe
   pub disk : status ≡ 10 → (name : List ℕ) × IsServedWith call name serve_end.Disk × Says err (disk_line name)
   -- 11: the named journal has no room for a message that came
   pub full : status ≡ 11 → (name : List ℕ) × IsServedWith call name serve_end.Full × Says err (full_line name)
+  -- 12: what is wrong was written of what the named logs tell
+  pub refuted : status ≡ 12 → Refutes call.run
+  -- 13: the book of the named log failed
+  pub unlogged : status ≡ 13 → (name : List ℕ) × IsBookBlamed call name × Says err (book_line name)
 
 -- the words are not those of a command with nodes, or it ended before any of these ran
 abbrev pub IsQuiet : List (List ℕ) → (status : ℕ) → Type 0
-IsQuiet words status = (NamesNodes words → ⊥) ⊎ IsOneOf (1 ∷ 2 ∷ 3 ∷ 6 ∷ []) status
+IsQuiet words status = (NamesNodes words → ⊥) ⊎ IsOneOf (1 ∷ 2 ∷ 3 ∷ 6 ∷ 12 ∷ []) status
 
 -- the words name no journal, or the command ended before any was opened
 abbrev pub IsUnkept : List (List ℕ) → (status : ℕ) → Type 0
 IsUnkept words status = ((name : List ℕ) → NamesJournal words name → ⊥) ⊎ IsOneOf (1 ∷ 2 ∷ 6 ∷ []) status
+
+-- the words name no log to keep, or the command ended before any book was opened
+abbrev pub IsUnlogged : List (List ℕ) → (status : ℕ) → Type 0
+IsUnlogged words status = ((name : List ℕ) → NamesLog words name → ⊥) ⊎ IsOneOf (1 ∷ 2 ∷ 3 ∷ 6 ∷ 12 ∷ []) status

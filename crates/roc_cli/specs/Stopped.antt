@@ -6,6 +6,10 @@ use Rattle.roc_lang.specs.Syntax.{Tree}
 use Rattle.roc_lang_print.specs.Canonical.{canonical}
 use Rattle.roc_program.specs.Program.{Workload}
 use Rattle.roc_plan.specs.Groups.{Plan}
+use Rattle.roc_log.specs.declared.line.Log.{Log}
+use Rattle.roc_auditor.specs.declared.verdict.Verdict.{Verdict}
+use Rattle.roc_auditor.specs.Verdict.{IsVerdict}
+use Rattle.roc_auditor.specs.VerdictText.{verdict_text}
 use Rattle.roc_report.specs.Line.{Line}
 use Rattle.roc_report.specs.Text.{line_text}
 use Rattle.roc_replay.specs.Ended.{IsCut, IsUnfinished}
@@ -14,16 +18,18 @@ use Rattle.roc_cli_words.specs.declared.value.Part.{Part}
 use Rattle.roc_cli_nodes.specs.Words.{IsReplay, IsPrint, IsCheck, IsGen, NamesProgram, NamesWorkload, NamesNodeFiles}
 use Rattle.roc_cli_files.specs.Held.{NodeFiles, HoldsPlan, HoldsText, HoldsRejected, HoldsCluster}
 use Rattle.roc_cli.specs.Done.{IsReplayOf, IsGenerated}
+use Rattle.roc_cli.specs.Audited.{ComesToLog, IsAuditOf}
 use Rattle.roc_cli_files.specs.Input.{check_text}
 
--- the name is that of a file that is to be read: the workload; the schedule or the cluster file where the workload has a plan; the requests where
--- the cluster file is one of the workload
+-- the name is that of a file that is to be read: the workload; the schedule, the cluster file or the first log where the workload has a plan; the requests
+-- where the cluster file is one of the workload; a further log where those before it are logs
 pub data IsInput (call : RunCall) (name : List ℕ) : Type 0 where
   the_workload : NamesWorkload call.words name → IsInput call name
   the_schedule : (workload : List ℕ) (plan : Plan) → IsReplay call.words workload name → HoldsPlan call.files.content workload plan → IsInput call name
   the_cluster : (files : NodeFiles) (plan : Plan) → NamesNodeFiles call.words files → HoldsPlan call.files.content files.workload plan → files.cluster ≡ name → IsInput call name
   the_requests : (files : NodeFiles) (plan : Plan) (addrs : List Addr) → NamesNodeFiles call.words files → HoldsPlan call.files.content files.workload plan
       → HoldsCluster call.files.content files.cluster plan.program.shards addrs → files.requests ≡ Some name → IsInput call name
+  the_log : (plan : Plan) (logs : List Log) → ComesToLog call name plan logs → IsInput call name
 
 -- the file of this name could not be read, and no other read failed; standard output took nothing
 pub record IsUnread (call : RunCall) (name : List ℕ) : Type 0 where
@@ -37,8 +43,8 @@ pub data RunsOut (call : RunCall) : Type 0 where
   with_lines : (plan : Plan) (bytes : List ℕ) → IsReplayOf call plan bytes → IsUnfinished plan bytes call.out.old call.out.new → RunsOut call
 
 -- standard output failed at a text that was due, and took a front of it: of the named workload's canonical text, the text of its check or the
--- line that says why it is not acceptable, of what was to be generated, or of a next line's or the closing lines' text in the report of the
--- named schedule
+-- line that says why it is not acceptable, of what was to be generated, of the verdict over the named logs, or of a next line's or the closing
+-- lines' text in the report of the named schedule
 pub data CutsOutput (call : RunCall) : Type 0 where
   in_report : (plan : Plan) (bytes : List ℕ) → IsReplayOf call plan bytes → IsCut plan bytes call.out.old call.out.new → CutsOutput call
   in_text : (workload : List ℕ) (tree : Tree) → IsPrint call.words workload → HoldsText call.files.content workload tree
@@ -49,3 +55,5 @@ pub data CutsOutput (call : RunCall) : Type 0 where
       → AddsFront call.out.old call.out.new (line_text program said) → CutsOutput call
   in_generated : (seed shards txns : ℕ) (part : Part) (text : List ℕ) → IsGen call.words seed shards txns part → IsGenerated seed shards txns part text
       → AddsFront call.out.old call.out.new text → CutsOutput call
+  in_verdict : (plan : Plan) (logs : List Log) (asked : IsAuditOf call plan logs) (verdict : Verdict) → IsVerdict plan logs verdict
+      → AddsFront call.out.old call.out.new (verdict_text asked.names verdict) → CutsOutput call

@@ -2,3 +2,4 @@ pub mod Naming
 pub mod Looping
 pub mod Named
 mod Reading
+mod Booked

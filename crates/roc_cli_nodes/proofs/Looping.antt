@@ -13,17 +13,19 @@ use Rattle.roc_node.specs.NodeEvent.{NodeSetting, node_setting}
 use Rattle.roc_node_serve.specs.declared.ends.ServeEnd.{ServeEnd}
 use Rattle.roc_node_serve.specs.Keeping.{ServesWith}
 use Rattle.roc_node_submit.specs.SubmitEnd.{BindsAndSubmits}
+use Rattle.roc_node_submit.specs.declared.ends.SubmitEnd.{SubmitEnd}
+use Rattle.roc_book.specs.Call.{BookCall}
 use Rattle.roc_node_local.specs.declared.local.LocalEnd.{LocalEnd}
 use Rattle.roc_node_local.specs.declared.local.LocalEnd.TheVariants.{ChildFault}
 use Rattle.roc_node_local.specs.Stops.{SendsStops}
-use Rattle.roc_node_local.specs.Local.{RunsLocal, local_ask, local_end_of}
+use Rattle.roc_node_local.specs.Local.{RunsLocal, local_ask}
 use Rattle.roc_cli_files.specs.declared.fault.Fault.{Fault}
-use Rattle.roc_cli_files.specs.declared.fault.Fault.TheVariants.{Journal, Memory, Unanswered, Sink, Link, Child, Disk, Full}
+use Rattle.roc_cli_files.specs.declared.fault.Fault.TheVariants.{Journal, Memory, Unanswered, Sink, Link, Child, Disk, Full, Book}
 use Rattle.roc_cli_files.specs.declared.nodes.Nodes.{Nodes}
 use Rattle.roc_io.specs.Call.{NodeCall, LinkCall, ChildrenCall}
 use Rattle.roc_cli_nodes.specs.Call.{RunCall, DiskCall, WholeCall}
 use Rattle.roc_cli_nodes.specs.NodeEnds as nodes_end
-use Rattle.roc_cli_nodes.specs.NodeEnds.{NodesEnd, end_of_serve}
+use Rattle.roc_cli_nodes.specs.NodeEnds.{NodesEnd, end_of_serve, end_of_submit}
 use Rattle.roc_cli_files.specs.Held.{HoldNodes}
 use Rattle.roc_cli_files.specs.NodeNames.{HoldsAll}
 use Rattle.roc_cli_nodes.specs.Nodes.{node_call, local_call, IsServed, AreSubmitted, AreStopped, AreRunHere, AreNodesEnded, LocalEnded, BlamesChildOf, IsChildBlamed}
@@ -47,15 +49,25 @@ loop_told P Q C D (Err (Child shard status)) more child h = child shard status h
 loop_told P Q C D (Err (Journal file)) more child h = more (nodes_end.Journal file.now) h
 loop_told P Q C D (Err (Disk file)) more child h = more (nodes_end.DiskFault file.now) h
 loop_told P Q C D (Err (Full file)) more child h = more (nodes_end.Full file.now) h
+loop_told P Q C D (Err (Book file)) more child h = more (nodes_end.BookFault file.now) h
 loop_told P Q C D (Err _) more child h = absurd h
 
 -- how a server ended, told of its loop
-pub serve_told : (disk : DiskCall) (journal : Option (List ℕ)) (S : NodeSetting) (shard : Shard) (own : Addr) (turns : ℕ) (counts : Bool) (call : NodeCall) (file : List ℕ) (end : ServeEnd) (result : Result Unit Fault)
-    → file ≡ unwrap_or journal [] → ServesWith disk.of disk.old disk.new journal S shard own turns counts call end → LoopEnded (λ e. end_of_serve file end ≡ e) no_child result
-    → LoopEnded (ServesAs disk journal S shard own turns counts call) no_child result
-serve_told disk journal S shard own turns counts call file end result named serves told =
-    loop_told (λ e. end_of_serve file end ≡ e) (ServesAs disk journal S shard own turns counts call) no_child no_child result
-    (λ e is. (end, ap (λ name. end_of_serve name end) (sym named) ∙ is, serves)) (λ shard status h. h) told
+pub serve_told : (disk : DiskCall) (journal log : Option (List ℕ)) (S : NodeSetting) (shard : Shard) (own : Addr) (turns : ℕ) (counts : Bool) (call : NodeCall) (book : BookCall) (file under : List ℕ) (end : ServeEnd)
+    (result : Result Unit Fault) → file ≡ unwrap_or journal [] → under ≡ unwrap_or log [] → ServesWith disk.of disk.old disk.new journal log S shard own turns counts call book end
+    → LoopEnded (λ e. end_of_serve file under end ≡ e) no_child result → LoopEnded (ServesAs disk journal log S shard own turns counts call book) no_child result
+serve_told disk journal log S shard own turns counts call book file under end result kept logged serves told =
+    loop_told (λ e. end_of_serve file under end ≡ e) (ServesAs disk journal log S shard own turns counts call book) no_child no_child result
+    (λ e is. (end, ap (λ name. end_of_serve name (unwrap_or log []) end) (sym kept) ∙ ap (λ name. end_of_serve file name end) (sym logged) ∙ is, serves)) (λ shard status h. h) told
+
+-- how a coordinator ended, told of its loop
+module _ (S : NodeSetting) (coord : ℕ) (requests given : List Request) (turns : ℕ) (log : Option (List ℕ)) (call : NodeCall) (book : BookCall) (under : List ℕ) (end : SubmitEnd) (result : Result Unit Fault) where
+  pub submit_told : given ≡ requests → under ≡ unwrap_or log [] → BindsAndSubmits S coord given turns log call book end
+      → LoopEnded (λ e. end_of_submit under end ≡ e) no_child result → LoopEnded (SubmitsAs S coord requests turns log call book) no_child result
+  submit_told same logged submits told =
+      let own = subst (λ (r : List Request). BindsAndSubmits S coord r turns log call book end) same submits in
+      loop_told (λ e. end_of_submit under end ≡ e) (SubmitsAs S coord requests turns log call book) no_child no_child result
+      (λ e is. (end, ap (λ name. end_of_submit name end) (sym logged) ∙ is, own)) (λ shard status h. h) told
 
 loop_ends : (call : RunCall) (P Q : NodesEnd → Type 0) (C D : Shard → Option ℕ → Type 0) (result : Result Unit Fault) → ((end : NodesEnd) → P end → Q end)
     → ((shard : Shard) (status : Option ℕ) → C shard status → D shard status) → LoopEnded P C result → LaunchEnds call Q D result
@@ -70,7 +82,7 @@ launch_among call P Q C D (Err fault) more child (inl h) = inl h
 launch_among call P Q C D (Err fault) more child (inr h) = inr (loop_told P Q C D (Err fault) more child h)
 
 -- one that is there can be had
-address_there : (addrs : List Addr) (n : ℕ) → n < length addrs → (own : Addr) × (slice_get addrs n ≡ Some own)
+pub address_there : (addrs : List Addr) (n : ℕ) → n < length addrs → (own : Addr) × (slice_get addrs n ≡ Some own)
 address_there [] n h = absurd (omega (arith, h))
 address_there (addr ∷ addrs) zero h = (addr, refl)
 address_there (addr ∷ addrs) (suc n) h = address_there addrs n (omega (arith, h))
@@ -84,12 +96,12 @@ without_requests content workload cluster shard bytes plan addrs requests h =
 
 module _ (call : RunCall) (link : LinkCall) (nodes : Nodes) (middle : Option (List ℕ)) (same : middle ≡ call.out.old) (workload cluster : List ℕ) where
   -- a server
-  module _ (disk : DiskCall) (shard : Shard) (turns : ℕ) (counts : Bool) (journal : Option (List ℕ)) (given : AreWordsOf call.words (serve workload cluster shard.0 turns counts journal))
+  module _ (disk : DiskCall) (book : BookCall) (shard : Shard) (turns : ℕ) (counts : Bool) (journal log : Option (List ℕ)) (given : AreWordsOf call.words (serve workload cluster shard.0 turns counts journal log))
       (held : HoldsAll call.files.content (record { workload = workload; cluster = cluster; requests = None; shard = Some shard.0 }) nodes) where
     served : (own : Addr) → slice_get nodes.cluster shard.0 ≡ Some own → (end : NodesEnd)
-        → ServesAs disk journal (node_setting nodes.plan nodes.tag (Server shard) nodes.cluster) shard own turns counts
-        (record { link = link; out = record { old = middle; new = call.out.new } }) end
-        → IsServed call link disk end
+        → ServesAs disk journal log (node_setting nodes.plan nodes.tag (Server shard) nodes.cluster) shard own turns counts
+        (record { link = link; out = record { old = middle; new = call.out.new } }) book end
+        → IsServed call link disk book end
     served own address end (e, is, serves) = (
       e,
       record {
@@ -99,6 +111,7 @@ module _ (call : RunCall) (link : LinkCall) (nodes : Nodes) (middle : Option (Li
         turns = turns;
         counts = counts;
         journal = journal;
+        log = log;
         given = given;
         bytes = held.0;
         plan = nodes.plan;
@@ -107,22 +120,22 @@ module _ (call : RunCall) (link : LinkCall) (nodes : Nodes) (middle : Option (Li
         own = own;
         address = address;
         serves =
-            subst (λ (tag : List ℕ). ServesWith disk.of disk.old disk.new journal (node_setting nodes.plan tag (Server shard) nodes.cluster) shard own turns counts (node_call call link) e) held.2
-            (subst (λ (o : Option (List ℕ)). ServesWith disk.of disk.old disk.new journal (node_setting nodes.plan nodes.tag (Server shard) nodes.cluster) shard own turns counts
-            (record { link = link; out = record { old = o; new = call.out.new } }) e) same serves);
+            subst (λ (tag : List ℕ). ServesWith disk.of disk.old disk.new journal log (node_setting nodes.plan tag (Server shard) nodes.cluster) shard own turns counts (node_call call link) book e) held.2
+            (subst (λ (o : Option (List ℕ)). ServesWith disk.of disk.old disk.new journal log (node_setting nodes.plan nodes.tag (Server shard) nodes.cluster) shard own turns counts
+            (record { link = link; out = record { old = o; new = call.out.new } }) book e) same serves);
       },
       is,
     )
 
     pub serve_ended : (result : Result Unit Fault)
         → ((own : Addr) → slice_get nodes.cluster shard.0 ≡ Some own
-        → LoopEnded (ServesAs disk journal (node_setting nodes.plan nodes.tag (Server shard) nodes.cluster) shard own turns counts
-        (record { link = link; out = record { old = middle; new = call.out.new } })) no_child result)
-        → LaunchEnds call (IsServed call link disk) no_child result
+        → LoopEnded (ServesAs disk journal log (node_setting nodes.plan nodes.tag (Server shard) nodes.cluster) shard own turns counts
+        (record { link = link; out = record { old = middle; new = call.out.new } }) book) no_child result)
+        → LaunchEnds call (IsServed call link disk book) no_child result
     serve_ended result ends =
         let each : length nodes.cluster ≡ nodes.plan.program.shards = held.1.of_cluster.is.is_cluster.each in
         let there = address_there nodes.cluster shard.0 (subst (λ n. shard.0 < n) (sym each) held.1.has_shard) in
-        loop_ends call _ (IsServed call link disk) no_child no_child result (served there.0 there.1) (λ shard status h. h) (ends there.0 there.1)
+        loop_ends call _ (IsServed call link disk book) no_child no_child result (served there.0 there.1) (λ shard status h. h) (ends there.0 there.1)
 
   -- stops
   module _ (given : AreWordsOf call.words (stop workload cluster)) (held : HoldsAll call.files.content (record { workload = workload; cluster = cluster; requests = None; shard = None }) nodes)
@@ -151,19 +164,19 @@ module _ (call : RunCall) (link : LinkCall) (nodes : Nodes) (middle : Option (Li
 
   module _ (listed : List ℕ) (turns : ℕ) (held : HoldsAll call.files.content (record { workload = workload; cluster = cluster; requests = Some listed; shard = None }) nodes) where
     -- a coordinator
-    module _ (coord : ℕ) (given : AreWordsOf call.words (submit workload cluster listed coord turns)) where
+    module _ (coord : ℕ) (log : Option (List ℕ)) (book : BookCall) (given : AreWordsOf call.words (submit workload cluster listed coord turns log)) where
       submitted : (end : NodesEnd)
-          → SubmitsAs (node_setting nodes.plan nodes.tag (Coord coord) nodes.cluster) coord nodes.requests.items turns (record { link = link; out = record { old = middle; new = call.out.new } }) end
-          → AreSubmitted call link end
+          → SubmitsAs (node_setting nodes.plan nodes.tag (Coord coord) nodes.cluster) coord nodes.requests.items turns log (record { link = link; out = record { old = middle; new = call.out.new } }) book end
+          → AreSubmitted call link book end
       submitted end (e, is, h) = (
         e,
-        is,
         record {
           workload = workload;
           cluster = cluster;
           listed = listed;
           coord = coord;
           turns = turns;
+          log = log;
           given = given;
           bytes = held.0;
           plan = nodes.plan;
@@ -171,15 +184,19 @@ module _ (call : RunCall) (link : LinkCall) (nodes : Nodes) (middle : Option (Li
           requests = nodes.requests.items;
           held = held.1;
           submits =
-              subst (λ (tag : List ℕ). BindsAndSubmits (node_setting nodes.plan tag (Coord coord) nodes.cluster) coord nodes.requests.items turns (node_call call link) e) held.2
-              (subst (λ (o : Option (List ℕ)). BindsAndSubmits (node_setting nodes.plan nodes.tag (Coord coord) nodes.cluster) coord nodes.requests.items turns (record { link = link; out = record { old = o; new = call.out.new } }) e) same h);
+              subst (λ (tag : List ℕ). BindsAndSubmits (node_setting nodes.plan tag (Coord coord) nodes.cluster) coord nodes.requests.items turns log (node_call call link) book e) held.2
+              (subst
+              (λ (o : Option (List ℕ)). BindsAndSubmits (node_setting nodes.plan nodes.tag (Coord coord) nodes.cluster) coord nodes.requests.items turns log
+              (record { link = link; out = record { old = o; new = call.out.new } }) book e)
+              same h);
         },
+        is,
       )
 
       pub submit_ended : (result : Result Unit Fault)
-          → LoopEnded (SubmitsAs (node_setting nodes.plan nodes.tag (Coord coord) nodes.cluster) coord nodes.requests.items turns (record { link = link; out = record { old = middle; new = call.out.new } })) no_child result
-          → LaunchEnds call (AreSubmitted call link) no_child result
-      submit_ended result ends = loop_ends call _ (AreSubmitted call link) no_child no_child result submitted (λ shard status h. h) ends
+          → LoopEnded (SubmitsAs (node_setting nodes.plan nodes.tag (Coord coord) nodes.cluster) coord nodes.requests.items turns log (record { link = link; out = record { old = middle; new = call.out.new } }) book) no_child result
+          → LaunchEnds call (AreSubmitted call link book) no_child result
+      submit_ended result ends = loop_ends call _ (AreSubmitted call link book) no_child no_child result submitted (λ shard status h. h) ends
 
     -- servers and a coordinator
     module _ (children : ChildrenCall) (given : AreWordsOf call.words (local workload cluster listed turns)) where
@@ -207,7 +224,7 @@ module _ (call : RunCall) (link : LinkCall) (nodes : Nodes) (middle : Option (Li
       ran_as : (end : NodesEnd)
           → LocalAs (local_ask nodes.plan nodes.tag nodes.cluster nodes.requests.items workload cluster turns) (record { node = record { link = link; out = record { old = middle; new = call.out.new } }; children = children }) end
           → AreRunHere call link children end
-      ran_as end (e, is, h) = (e, is, ran (local_end_of e) h)
+      ran_as end (e, is, h) = (e, is, ran e h)
 
       pub local_ended : (result : Result Unit Fault)
           → LoopEnded
@@ -222,11 +239,11 @@ module _ (call : RunCall) (link : LinkCall) (nodes : Nodes) (middle : Option (Li
 -- ---- one command among all
 
 module _ (call : WholeCall) (result : Result Unit Fault) where
-  pub served_among : LaunchEnds call.run (IsServed call.run call.link call.disk) no_child result → IsLaunched call result
-  served_among h = launch_among call.run (IsServed call.run call.link call.disk) (AreNodesEnded call) no_child (IsChildBlamed call) result (λ end h. inl h) (λ shard status h. absurd h) h
+  pub served_among : LaunchEnds call.run (IsServed call.run call.link call.disk call.book) no_child result → IsLaunched call result
+  served_among h = launch_among call.run (IsServed call.run call.link call.disk call.book) (AreNodesEnded call) no_child (IsChildBlamed call) result (λ end h. inl h) (λ shard status h. absurd h) h
 
-  pub submitted_among : LaunchEnds call.run (AreSubmitted call.run call.link) no_child result → IsLaunched call result
-  submitted_among h = launch_among call.run (AreSubmitted call.run call.link) (AreNodesEnded call) no_child (IsChildBlamed call) result (λ end h. inr (inl h)) (λ shard status h. absurd h) h
+  pub submitted_among : LaunchEnds call.run (AreSubmitted call.run call.link call.book) no_child result → IsLaunched call result
+  submitted_among h = launch_among call.run (AreSubmitted call.run call.link call.book) (AreNodesEnded call) no_child (IsChildBlamed call) result (λ end h. inr (inl h)) (λ shard status h. absurd h) h
 
   pub stopped_among : LaunchEnds call.run (AreStopped call.run call.link) no_child result → IsLaunched call result
   stopped_among h = launch_among call.run (AreStopped call.run call.link) (AreNodesEnded call) no_child (IsChildBlamed call) result (λ end h. inr (inr (inl h))) (λ shard status h. absurd h) h

@@ -1,10 +1,10 @@
 -- Which command words ask for, and which files they name
-use Rattle.std.proofs.Common.{◌≡◌, ℕ, List, [], Option, Some, None, Result, Ok, Err, false, refl, sym, ap, ◌∙◌, ◌==◌}
+use Rattle.std.proofs.Common.{◌≡◌, ℕ, List, [], Option, Some, None, Result, Ok, Err, false, sym, ap, ◌∙◌, ◌==◌}
 use Rattle.std.specs.Option.{option_map}
 use Rattle.std.proofs.lemmas.Bool.{eq-eqb, false≢true}
 use Rattle.std.proofs.lemmas.Option.{same_Some, none-some}
 use Rattle.roc_cli_words.specs.declared.value.ValueName.{ValueName}
-use Rattle.roc_cli_words.specs.Commands.{Command, check, print, replay, serve, submit, stop, local, gen}
+use Rattle.roc_cli_words.specs.Commands.{Command, check, print, replay, serve, submit, stop, local, gen, audit}
 use Rattle.roc_cli_words.specs.Answer.{AreWordsOf}
 use Rattle.roc_cli_nodes.specs.Words.{IsReplay, node_files, program_of, workload_of, Name, NamesProgram, NamesWorkload, NamesNodeFiles}
 use Rattle.roc_cli_files.specs.Held.{NodeFiles}
@@ -24,11 +24,12 @@ abbrev pub kind : Command → ℕ
 kind (check workload) = 0
 kind (print workload) = 1
 kind (replay workload schedule) = 2
-kind (serve workload cluster shard turns counts journal) = 3
-kind (submit workload cluster requests coord turns) = 4
+kind (serve workload cluster shard turns counts journal log) = 3
+kind (submit workload cluster requests coord turns log) = 4
 kind (stop workload cluster) = 5
 kind (local workload cluster requests turns) = 6
 kind (gen seed shards txns part) = 7
+kind (audit workload logs) = 8
 
 -- the words of one command are not those of another
 pub unlike : (A : Type 0) (words : List (List ℕ)) (c d : Command) → AreWordsOf words c → AreWordsOf words d → (kind c == kind d) ≡ false → A
@@ -56,11 +57,12 @@ program_is_workload : (c : Command) (name : List ℕ) → program_of c ≡ Some 
 program_is_workload (check workload) name e = e
 program_is_workload (print workload) name e = absurd (none-some name e)
 program_is_workload (replay workload schedule) name e = e
-program_is_workload (serve workload cluster shard turns counts journal) name e = e
-program_is_workload (submit workload cluster requests coord turns) name e = e
+program_is_workload (serve workload cluster shard turns counts journal log) name e = e
+program_is_workload (submit workload cluster requests coord turns log) name e = e
 program_is_workload (stop workload cluster) name e = e
 program_is_workload (local workload cluster requests turns) name e = e
 program_is_workload (gen seed shards txns part) name e = absurd (none-some name e)
+program_is_workload (audit workload logs) name e = e
 
 pub as_workload : (words : List (List ℕ)) (name : List ℕ) → NamesProgram words name → NamesWorkload words name
 as_workload words name (c, is, e) = (c, is, program_is_workload c name e)
@@ -73,11 +75,12 @@ unfolding workload_in
 files_name_program (check workload) files e = absurd (none-some files e)
 files_name_program (print workload) files e = absurd (none-some files e)
 files_name_program (replay workload schedule) files e = absurd (none-some files e)
-files_name_program (serve workload cluster shard turns counts journal) files e = ap workload_in e
-files_name_program (submit workload cluster requests coord turns) files e = ap workload_in e
+files_name_program (serve workload cluster shard turns counts journal log) files e = ap workload_in e
+files_name_program (submit workload cluster requests coord turns log) files e = ap workload_in e
 files_name_program (stop workload cluster) files e = ap workload_in e
 files_name_program (local workload cluster requests turns) files e = ap workload_in e
 files_name_program (gen seed shards txns part) files e = absurd (none-some files e)
+files_name_program (audit workload logs) files e = absurd (none-some files e)
 
 pub as_program : (words : List (List ℕ)) (files : NodeFiles) → NamesNodeFiles words files → NamesProgram words files.workload
 as_program words files (c, is, e) = (c, is, files_name_program c files e)

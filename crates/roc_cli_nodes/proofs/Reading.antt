@@ -1,10 +1,10 @@
--- What is counted of a disk, and that files which do not hold what is needed blame none
+-- What is counted of a disk and of a book, and that files which do not hold what is needed blame none
 use Rattle.std.proofs.Common.{◌≡◌, ℕ, Bool, false, List, Option, refl, sym, subst}
 use Rattle.roc_io.specs.Cause.{HasCause}
 use Rattle.roc_plan.specs.Groups.{Plan}
 use Rattle.roc_cli_files.specs.declared.fault.Fault.{Fault}
-use Rattle.roc_cli_files.specs.declared.fault.Fault.TheVariants.{Disk}
-use Rattle.roc_cli_files.specs.Fault.{blames_disk}
+use Rattle.roc_cli_files.specs.declared.fault.Fault.TheVariants.{Disk, Book}
+use Rattle.roc_cli_files.specs.Fault.{blames_disk, blames_book}
 use Rattle.roc_cli_files.specs.Held.{NodeFiles}
 use Rattle.roc_cli_files.specs.Input.{PlanFails}
 use Rattle.roc_cli_files.specs.Listed.{ClusterFails, RequestsFail}
@@ -32,3 +32,21 @@ module _ (content : List ℕ → Option (List ℕ)) where
   files_undisked files old new _ (by_cluster plan fault planned fails same) = cluster_undisked files.cluster plan.program.shards fault fails
   files_undisked files old new _ (by_requests plan addrs name fault planned held is fails same) = requests_undisked name plan fault fails
   files_undisked files old new _ (by_shard lacks same) = refl
+
+  plan_unbooked : (name : List ℕ) (old new : Option (List ℕ)) (fault : Fault) → PlanFails content name old new fault → blames_book fault ≡ false
+  plan_unbooked name old new (Book file) h = absurd h.0
+  plan_unbooked name old new _ h = refl
+
+  cluster_unbooked : (name : List ℕ) (shards : ℕ) (fault : Fault) → ClusterFails content name shards fault → blames_book fault ≡ false
+  cluster_unbooked name shards (Book file) h = absurd h
+  cluster_unbooked name shards _ h = refl
+
+  requests_unbooked : (name : List ℕ) (plan : Plan) (fault : Fault) → RequestsFail content name plan.program fault → blames_book fault ≡ false
+  requests_unbooked name plan (Book file) h = absurd h
+  requests_unbooked name plan _ h = refl
+
+  pub files_unbooked : (files : NodeFiles) (old new : Option (List ℕ)) (fault : Fault) → NodesFail content files old new fault → blames_book fault ≡ false
+  files_unbooked files old new _ (by_workload fault fails) = plan_unbooked files.workload old new fault fails
+  files_unbooked files old new _ (by_cluster plan fault planned fails same) = cluster_unbooked files.cluster plan.program.shards fault fails
+  files_unbooked files old new _ (by_requests plan addrs name fault planned held is fails same) = requests_unbooked name plan fault fails
+  files_unbooked files old new _ (by_shard lacks same) = refl

@@ -1,5 +1,6 @@
 -- One call of `run`, as its contract sees it
 use Rattle.std.specs.Prelude.{◌≡◌, ℕ, List}
+use Rattle.roc_book.specs.Call.{BookCall}
 use Rattle.roc_io.specs.declared.files.Files.{Ghosts as FilesOf}
 use Rattle.roc_io.specs.declared.sink.Sink.{Ghosts as SinkOf}
 use Rattle.roc_disk.specs.declared.disk.Disk.{Ghosts as DiskOf}
@@ -30,6 +31,11 @@ pub record WholeCall : Type 1 where
   pub link : LinkCall
   pub children : ChildrenCall
   pub disk : DiskCall
+  pub book : BookCall
+
+-- no book was opened or written to, as far as it tells
+abbrev pub LeavesBook : BookCall → Type 0
+LeavesBook book = book.new ≡ book.old
 
 -- standard output took nothing
 abbrev pub TakesNothing : RunCall → Type 0

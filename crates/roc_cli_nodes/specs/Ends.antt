@@ -2,7 +2,7 @@
 use Rattle.std.specs.Prelude.{◌≡◌, ◌⊎◌, ℕ, Bool, true, false, Option, Result, Ok, Err}
 use Rattle.roc_base.specs.declared.node.Shard.{Shard}
 use Rattle.roc_cli_files.specs.declared.fault.Fault.{Fault}
-use Rattle.roc_cli_files.specs.declared.fault.Fault.TheVariants.{Journal, Memory, Unanswered, Sink, Link, Child, Disk, Full}
+use Rattle.roc_cli_files.specs.declared.fault.Fault.TheVariants.{Journal, Memory, Unanswered, Sink, Link, Child, Disk, Full, Book}
 use Rattle.roc_cli_files.specs.Held.{NodeFiles}
 use Rattle.roc_cli_files.specs.NodeNames.{NodesFail}
 use Rattle.roc_cli_nodes.specs.Call.{RunCall, WholeCall}
@@ -26,6 +26,7 @@ LoopEnded P C (Err (Child shard status)) = C shard status
 LoopEnded P C (Err (Journal file)) = P (nodes_end.Journal file.now)
 LoopEnded P C (Err (Disk file)) = P (nodes_end.DiskFault file.now)
 LoopEnded P C (Err (Full file)) = P (nodes_end.Full file.now)
+LoopEnded P C (Err (Book file)) = P (nodes_end.BookFault file.now)
 LoopEnded P C (Err _) = ⊥
 
 -- the same, or why the files were not read
@@ -42,7 +43,7 @@ abbrev pub CountsChildren : Result Unit Fault → (old new : ℕ) → Type 0
 CountsChildren (Ok done) old new = new ≡ old
 CountsChildren (Err fault) old new = Unit {0}
 
--- what is found before any node runs: a journal is opened before its server binds
+-- what is found before any node runs and any book is opened: a journal is opened before that
 abbrev pub precedes_loop : Fault → Bool
 precedes_loop Memory = false
 precedes_loop Unanswered = false
@@ -51,6 +52,7 @@ precedes_loop Link = false
 precedes_loop (Child shard status) = false
 precedes_loop (Disk file) = false
 precedes_loop (Full file) = false
+precedes_loop (Book file) = false
 precedes_loop _ = true
 
 -- what is found before a journal is opened

@@ -1,7 +1,7 @@
 -- The words of the command line, and the files that they name: docs/FORMATS.md, "The program"
 use Rattle.std.specs.Prelude.{◌≡◌, ℕ, Bool, List, Option, Some, None, is_some}
 use Rattle.roc_cli_words.specs.declared.value.Part.{Part}
-use Rattle.roc_cli_words.specs.Commands.{Command, check, print, replay, serve, submit, stop, local, gen}
+use Rattle.roc_cli_words.specs.Commands.{Command, check, print, replay, serve, submit, stop, local, gen, audit}
 use Rattle.roc_cli_words.specs.Answer.{AreWordsOf}
 use Rattle.roc_cli_files.specs.Held.{NodeFiles}
 
@@ -23,6 +23,10 @@ IsCheck words workload = AreWordsOf words (check workload)
 abbrev pub IsGen : List (List ℕ) → (seed shards txns : ℕ) → Part → Type 0
 IsGen words seed shards txns part = AreWordsOf words (gen seed shards txns part)
 
+-- `audit`, the name of a workload, and those of logs
+abbrev pub IsAudit : List (List ℕ) → (workload : List ℕ) → (logs : List (List ℕ)) → Type 0
+IsAudit words workload logs = AreWordsOf words (audit workload logs)
+
 -- the words are those of a replay
 abbrev pub AreReplayWords : List (List ℕ) → Type 0
 AreReplayWords words = (workload schedule : List ℕ) × IsReplay words workload schedule
@@ -39,14 +43,18 @@ AreCheckWords words = (workload : List ℕ) × IsCheck words workload
 abbrev pub AreGenWords : List (List ℕ) → Type 0
 AreGenWords words = (seed shards txns : ℕ) × (part : Part) × IsGen words seed shards txns part
 
+-- the words are those of an audit
+abbrev pub AreAuditWords : List (List ℕ) → Type 0
+AreAuditWords words = (workload : List ℕ) × (logs : List (List ℕ)) × IsAudit words workload logs
+
 -- the words are those of a server
 abbrev pub AreServeWords : List (List ℕ) → Type 0
 AreServeWords words =
-    (workload cluster : List ℕ) × (shard turns : ℕ) × (counts : Bool) × (journal : Option (List ℕ)) × AreWordsOf words (serve workload cluster shard turns counts journal)
+    (workload cluster : List ℕ) × (shard turns : ℕ) × (counts : Bool) × (journal log : Option (List ℕ)) × AreWordsOf words (serve workload cluster shard turns counts journal log)
 
 -- the words are those of a coordinator
 abbrev pub AreSubmitWords : List (List ℕ) → Type 0
-AreSubmitWords words = (workload cluster requests : List ℕ) × (coord turns : ℕ) × AreWordsOf words (submit workload cluster requests coord turns)
+AreSubmitWords words = (workload cluster requests : List ℕ) × (coord turns : ℕ) × (log : Option (List ℕ)) × AreWordsOf words (submit workload cluster requests coord turns log)
 
 -- the words ask to stop servers
 abbrev pub AreStopWords : List (List ℕ) → Type 0
@@ -64,14 +72,15 @@ AreCommandWords words = (command : Command) × AreWordsOf words command
 
 -- the files of a command with nodes
 abbrev pub node_files : Command → Option NodeFiles
-node_files (serve workload cluster shard turns counts journal) = Some (record { workload = workload; cluster = cluster; requests = None; shard = Some shard })
-node_files (submit workload cluster requests coord turns) = Some (record { workload = workload; cluster = cluster; requests = Some requests; shard = None })
+node_files (serve workload cluster shard turns counts journal log) = Some (record { workload = workload; cluster = cluster; requests = None; shard = Some shard })
+node_files (submit workload cluster requests coord turns log) = Some (record { workload = workload; cluster = cluster; requests = Some requests; shard = None })
 node_files (stop workload cluster) = Some (record { workload = workload; cluster = cluster; requests = None; shard = None })
 node_files (local workload cluster requests turns) = Some (record { workload = workload; cluster = cluster; requests = Some requests; shard = None })
 node_files (check workload) = None
 node_files (print workload) = None
 node_files (replay workload schedule) = None
 node_files (gen seed shards txns part) = None
+node_files (audit workload logs) = None
 
 -- the command is one with nodes
 abbrev pub needs_nodes : Command → Bool
@@ -82,33 +91,48 @@ abbrev pub program_of : Command → Option (List ℕ)
 program_of (check workload) = Some workload
 program_of (print workload) = None
 program_of (replay workload schedule) = Some workload
-program_of (serve workload cluster shard turns counts journal) = Some workload
-program_of (submit workload cluster requests coord turns) = Some workload
+program_of (serve workload cluster shard turns counts journal log) = Some workload
+program_of (submit workload cluster requests coord turns log) = Some workload
 program_of (stop workload cluster) = Some workload
 program_of (local workload cluster requests turns) = Some workload
 program_of (gen seed shards txns part) = None
+program_of (audit workload logs) = Some workload
 
 -- the workload
 abbrev pub workload_of : Command → Option (List ℕ)
 workload_of (print workload) = Some workload
 workload_of (check workload) = Some workload
 workload_of (replay workload schedule) = Some workload
-workload_of (serve workload cluster shard turns counts journal) = Some workload
-workload_of (submit workload cluster requests coord turns) = Some workload
+workload_of (serve workload cluster shard turns counts journal log) = Some workload
+workload_of (submit workload cluster requests coord turns log) = Some workload
 workload_of (stop workload cluster) = Some workload
 workload_of (local workload cluster requests turns) = Some workload
 workload_of (gen seed shards txns part) = None
+workload_of (audit workload logs) = Some workload
 
 -- the journal of a server
 abbrev pub journal_of : Command → Option (List ℕ)
-journal_of (serve workload cluster shard turns counts journal) = journal
-journal_of (submit workload cluster requests coord turns) = None
+journal_of (serve workload cluster shard turns counts journal log) = journal
+journal_of (submit workload cluster requests coord turns log) = None
 journal_of (stop workload cluster) = None
 journal_of (local workload cluster requests turns) = None
 journal_of (check workload) = None
 journal_of (print workload) = None
 journal_of (replay workload schedule) = None
 journal_of (gen seed shards txns part) = None
+journal_of (audit workload logs) = None
+
+-- the log of a node
+abbrev pub log_of : Command → Option (List ℕ)
+log_of (serve workload cluster shard turns counts journal log) = log
+log_of (submit workload cluster requests coord turns log) = log
+log_of (stop workload cluster) = None
+log_of (local workload cluster requests turns) = None
+log_of (check workload) = None
+log_of (print workload) = None
+log_of (replay workload schedule) = None
+log_of (gen seed shards txns part) = None
+log_of (audit workload logs) = None
 
 -- the words are those of a command of which this is what they name
 abbrev pub Name : {A : Type 0} → (Command → Option A) → List (List ℕ) → A → Type 0
@@ -129,6 +153,10 @@ NamesNodeFiles words files = Name node_files words files
 -- the words name a journal
 abbrev pub NamesJournal : List (List ℕ) → (name : List ℕ) → Type 0
 NamesJournal words name = Name journal_of words name
+
+-- the words name a log that a node is to keep
+abbrev pub NamesLog : List (List ℕ) → (name : List ℕ) → Type 0
+NamesLog words name = Name log_of words name
 
 -- the words are those of a command with nodes
 abbrev pub NamesNodes : List (List ℕ) → Type 0

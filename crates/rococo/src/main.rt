@@ -1,11 +1,12 @@
-//! The program: `run` of `roc_cli` over the machine's files, streams, network, processes and disk of `roc_io_real`. Its words
+//! The program: `run` of `roc_cli` over the machine's files, streams, network, processes, disk and book of `roc_io_real`. Its words
 //! are those of `docs/FORMATS.md`, "The program". Nothing stands here that can stand elsewhere.
 #![tactic(auto)]
 
 use roc_cli::run;
 use roc_io::{Sink, Written};
 use roc_io_real::{
-    Gathered, Given, RealDisk, RealFiles, RealLink, RealSpawner, Stream, finish_both, words_given,
+    Gathered, Given, RealBook, RealDisk, RealFiles, RealLink, RealSpawner, Stream, finish_both,
+    words_given,
 };
 use std::process::ExitCode;
 
@@ -40,6 +41,7 @@ fn run_words(rt: &HostRuntime, words: &[String]) -> u8 {
         &mut RealLink::new(rt.alloc(), rt),
         &mut RealSpawner::new(rt.alloc(), rt),
         &mut RealDisk::new(rt),
+        &mut RealBook::new(rt),
     );
     // A write that fails only now ends the program as any other does.
     match finish_both(&mut out, &mut err, b"sink\n") {
@@ -52,7 +54,7 @@ fn run_words(rt: &HostRuntime, words: &[String]) -> u8 {
 fn room_for(words: &[String]) -> usize {
     match words.first() {
         Some(word) => match word.as_str() {
-            "check" | "gen" | "print" | "replay" => ROOM,
+            "audit" | "check" | "gen" | "print" | "replay" => ROOM,
             _ => 0,
         },
         None => 0,

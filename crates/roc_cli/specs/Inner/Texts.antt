@@ -1,17 +1,29 @@
--- What the laws say of texts, plans and schedules
+-- What the laws say of texts, plans, schedules and logs
 use Rattle.std.specs.Prelude.{◌≡◌, ℕ, List, Option}
+use Rattle.roc_base.specs.declared.id.TxnId.{TxnId}
 use Rattle.roc_io.specs.declared.link.Addr.{Addr}
 use Rattle.roc_lang.specs.Syntax.{Tree}
 use Rattle.roc_lang.specs.declared.fault.What.{What}
 use Rattle.roc_lang_parse.specs.Fault.{IsWorkloadText, IsFirstFault}
 use Rattle.roc_program.specs.Program.{Workload}
 use Rattle.roc_plan.specs.Groups.{Plan}
+use Rattle.roc_plan.specs.Accepted.{IsAccepted}
 use Rattle.roc_views.specs.World.{World}
-use Rattle.roc_views.specs.Run.{Stepped}
+use Rattle.roc_views.specs.Run.{Stepped, IsRun}
 use Rattle.roc_cluster.specs.declared.fault.ClusterFault.{ClusterFault}
 use Rattle.roc_cluster.specs.declared.fault.ClusterFault.TheVariants.{NoMemory}
 use Rattle.roc_cluster.specs.File.{IsClusterFile}
 use Rattle.roc_cluster.specs.Answer.{IsClusterFault}
+use Rattle.roc_base.specs.declared.node.Node.{Node}
+use Rattle.roc_log.specs.declared.fault.What.{What as LogWhat}
+use Rattle.roc_log.specs.declared.line.Log.{Log}
+use Rattle.roc_log.specs.Logs.{IsLog, IsLogFault}
+use Rattle.roc_judge.specs.declared.judgement.Judgement.TheVariants.{Yes}
+use Rattle.roc_auditor.specs.declared.verdict.Verdict.{Verdict}
+use Rattle.roc_auditor.specs.declared.verdict.Verdict.TheVariants.{Judged}
+use Rattle.roc_auditor.specs.Verdict.{HaveNoGap, IsVerdict}
+use Rattle.roc_law_audit.specs.InTheWorld.{SubmitsNoView}
+use Rattle.roc_law_audit.specs.LogsOfRuns.{AreLogsOfRun}
 use Rattle.roc_report.specs.Line.{Line}
 use Rattle.roc_check.specs.Checked.{IsPlanOf, IsPlanOfText, IsRefusedBy}
 use Rattle.roc_sched.specs.declared.fault.What.{What as ScheduleWhat}
@@ -26,6 +38,7 @@ pub record TextLaws : Type 0 where
   pub one_tree : (bytes : List ℕ) (t u : Tree) → IsWorkloadText bytes t → IsWorkloadText bytes u → t ≡ u
   pub no_fault : (bytes : List ℕ) (t : Tree) (line : ℕ) (what : What) → IsWorkloadText bytes t → IsFirstFault bytes line what → ⊥
   pub one_plan : (bytes : List ℕ) (one other : Plan) → IsPlanOfText bytes one → IsPlanOfText bytes other → one ≡ other
+  pub accepted : (bytes : List ℕ) (plan : Plan) → IsPlanOfText bytes plan → IsAccepted plan
   pub no_refusal : (program : Workload) (plan : Plan) (line : Line) → IsPlanOf program plan → IsRefusedBy program line → ⊥
   pub no_cluster_fault :
       (shards : ℕ) (bytes : List ℕ) (cluster : List Addr) (fault : ClusterFault) → IsClusterFile shards bytes cluster → IsClusterFault shards bytes fault
@@ -36,3 +49,13 @@ pub record TextLaws : Type 0 where
       (plan : Plan) (text : List ℕ) (lines : List BoundLine) → IsScheduleOf plan.program text lines → AsksOnlySent plan lines
       → (number : ℕ) (fault : ScheduleWhat) (old new : Option (List ℕ)) → IsTextFault plan text number fault old new → ⊥
   pub sent : (plan : Plan) (lines : List BoundLine) (steps : List Stepped) (w : World) → IsPlayed plan lines steps w → AsksOnlySent plan lines
+  pub one_log : (program : Workload) (tag : List ℕ) (seen : List Node) (text : List ℕ) (log other : Log) → IsLog program tag seen text log → IsLog program tag seen text other → log ≡ other
+  pub no_log_fault :
+      (program : Workload) (tag : List ℕ) (seen : List Node) (text : List ℕ) (log : Log) (line : ℕ) (what : LogWhat) → IsLog program tag seen text log
+      → IsLogFault program tag seen text line what → ⊥
+  pub whole_logs :
+      (plan : Plan) (coords : ℕ) (steps : List Stepped) (w : World) → IsAccepted plan → IsRun plan coords steps w → SubmitsNoView plan w.history → (logs : List Log)
+      → AreLogsOfRun plan coords steps w logs → HaveNoGap plan logs
+  pub yes_logs :
+      (plan : Plan) (coords : ℕ) (steps : List Stepped) (w : World) → IsAccepted plan → IsRun plan coords steps w → SubmitsNoView plan w.history → (logs : List Log)
+      → AreLogsOfRun plan coords steps w logs → (verdict : Verdict) → IsVerdict plan logs verdict → (order : List TxnId) × (n : ℕ) × (verdict ≡ Judged (Yes order n))

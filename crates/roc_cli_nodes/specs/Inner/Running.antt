@@ -1,5 +1,6 @@
 -- What the loop of each command tells, by how nodes end
-use Rattle.std.specs.Prelude.{◌≡◌, ℕ, Bool, List, [], Option, Result, option_map, unwrap_or}
+use Rattle.std.specs.Prelude.{◌≡◌, ℕ, Bool, List, [], Option, Some, Result, option_map, unwrap_or}
+use Rattle.std.specs.Borrow.{Bor}
 use Rattle.roc_base.specs.declared.node.Shard.{Shard}
 use Rattle.roc_io.specs.declared.link.Addr.{Addr}
 use Rattle.roc_sched.specs.declared.line.Request.{Request}
@@ -7,30 +8,33 @@ use Rattle.roc_node.specs.NodeEvent.{NodeSetting}
 use Rattle.roc_node_serve.specs.declared.ends.ServeEnd.{ServeEnd}
 use Rattle.roc_node_submit.specs.declared.ends.SubmitEnd.{SubmitEnd}
 use Rattle.roc_node_serve.specs.Keeping.{ServesWith}
+use Rattle.roc_book.specs.Call.{BookCall}
 use Rattle.roc_io.specs.Observed.{AddsUnless}
 use Rattle.roc_node_local.specs.declared.stops.StopEnd.{StopEnd}
 use Rattle.roc_node_submit.specs.SubmitEnd.{any_address, BindsAndSubmits}
 use Rattle.roc_node_local.specs.Stops.{SendsStops, stops_unbound}
+use Rattle.roc_node_local.specs.declared.local.LocalEnd.{LocalEnd}
 use Rattle.roc_node_local.specs.declared.local.LocalEnd.TheVariants.{ChildFault}
-use Rattle.roc_node_local.specs.Local.{LocalAsk, LocalCall, RunsLocal, BlamesChild, local_end_of}
+use Rattle.roc_node_local.specs.Local.{LocalAsk, LocalCall, RunsLocal, BlamesChild}
 use Rattle.roc_io.specs.Call.{NodeCall, LinkCall, ChildrenCall}
-use Rattle.roc_cli_words.specs.declared.command.Serving.{Serving}
 use Rattle.roc_cli_files.specs.declared.fault.Fault.{Fault}
 use Rattle.roc_cli_nodes.specs.Call.{RunCall, DiskCall}
-use Rattle.roc_cli_nodes.specs.NodeEnds.{NodesEnd, end_of_serve, end_of_submit, end_of_stops}
+use Rattle.roc_cli_nodes.specs.NodeEnds.{NodesEnd, end_of_serve, end_of_submit, end_of_stops, end_of_local}
 use Rattle.roc_cli_nodes.specs.Ends.{LaunchEnds, LoopEnded}
 use Rattle.roc_cli_nodes.specs.Nodes.{AreRunHere, BlamesChildOf}
 
--- the name of the journal, where there is one
-abbrev pub journal_named : Serving → Option (List ℕ)
-journal_named asked = option_map (λ name. name.now) asked.journal
+-- a name, where there is one
+abbrev pub named : Option (Bor (List ℕ)) → Option (List ℕ)
+named name = option_map (λ text. text.now) name
 
-abbrev pub ServesAs : DiskCall → (journal : Option (List ℕ)) → NodeSetting → Shard → (own : Addr) → (turns : ℕ) → (counts : Bool) → NodeCall → NodesEnd → Type 0
-ServesAs disk journal S shard own turns counts call end =
-    (e : ServeEnd) × (end_of_serve (unwrap_or journal []) e ≡ end) × ServesWith disk.of disk.old disk.new journal S shard own turns counts call e
+-- what a server, and a coordinator, did with the named log or without one
+abbrev pub ServesAs : DiskCall → (journal log : Option (List ℕ)) → NodeSetting → Shard → (own : Addr) → (turns : ℕ) → (counts : Bool) → NodeCall → BookCall → NodesEnd → Type 0
+ServesAs disk journal log S shard own turns counts call book end =
+    (e : ServeEnd) × (end_of_serve (unwrap_or journal []) (unwrap_or log []) e ≡ end) × ServesWith disk.of disk.old disk.new journal log S shard own turns counts call book e
 
-abbrev pub SubmitsAs : NodeSetting → (coord : ℕ) → List Request → (turns : ℕ) → NodeCall → NodesEnd → Type 0
-SubmitsAs S coord requests turns call end = (e : SubmitEnd) × (end_of_submit e ≡ end) × BindsAndSubmits S coord requests turns call e
+abbrev pub SubmitsAs : NodeSetting → (coord : ℕ) → List Request → (turns : ℕ) → (log : Option (List ℕ)) → NodeCall → BookCall → NodesEnd → Type 0
+SubmitsAs S coord requests turns log call book end =
+    (e : SubmitEnd) × (end_of_submit (unwrap_or log []) e ≡ end) × BindsAndSubmits S coord requests turns log call book e
 
 -- what sending stops does to a link
 pub record StopsLink (tag : List ℕ) (cluster : List Addr) (link : LinkCall) (end : StopEnd) : Type 0 where
@@ -42,7 +46,7 @@ abbrev pub StopsAs : (tag : List ℕ) → (cluster : List Addr) → LinkCall →
 StopsAs tag cluster link end = (e : StopEnd) × (end_of_stops e ≡ end) × StopsLink tag cluster link e
 
 abbrev pub LocalAs : LocalAsk → LocalCall → NodesEnd → Type 0
-LocalAs asked call end = (e : SubmitEnd) × (end_of_submit e ≡ end) × RunsLocal asked call (local_end_of e)
+LocalAs asked call end = (e : LocalEnd) × (end_of_local e ≡ Some end) × RunsLocal asked call e
 
 abbrev pub LocalBlames : LocalAsk → LocalCall → Shard → Option ℕ → Type 0
 LocalBlames asked call shard status =

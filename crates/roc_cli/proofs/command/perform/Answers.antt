@@ -1,8 +1,8 @@
 use Rattle.std.proofs.Common.{inl, refl, sym, ◌∙◌}
-use Rattle.roc_cli_nodes.proofs.Named.{needing_named, journal_unnamed}
+use Rattle.roc_cli_nodes.proofs.Named.{needing_named, journal_unnamed, log_unnamed}
 use Rattle.roc_cli.proofs.Loading.{launched}
 use Rattle.roc_cli.proofs.Faults.{words_refused}
-use Rattle.roc_cli.proofs.Counts.{none_counted, unlinked, undisked, uncounted}
+use Rattle.roc_cli.proofs.Counts.{none_counted, unlinked, undisked, unbooked, uncounted}
 use Rattle.roc_cli.proofs.command.perform.Goals as goal
 
 -- a command with nodes
@@ -45,7 +45,25 @@ returns-then-needs_nodes-clause-unopened g c = c.launch.ensures.unopened
 pub returns-then-needs_nodes-clause-unkept : goal.returns-then-needs_nodes-clause-unkept
 returns-then-needs_nodes-clause-unkept g c none = c.launch.ensures.unkept (journal_unnamed _ _ c.in-Ok.ensures.answers none)
 
+pub returns-then-needs_nodes-clause-book_faults : goal.returns-then-needs_nodes-clause-book_faults
+returns-then-needs_nodes-clause-book_faults g c = c.launch.ensures.book_faults
+
+pub returns-then-needs_nodes-clause-unbegun : goal.returns-then-needs_nodes-clause-unbegun
+returns-then-needs_nodes-clause-unbegun g c = c.launch.ensures.unbegun
+
+pub returns-then-needs_nodes-clause-unlogged : goal.returns-then-needs_nodes-clause-unlogged
+returns-then-needs_nodes-clause-unlogged g c none = c.launch.ensures.unlogged (log_unnamed _ _ c.in-Ok.ensures.answers none)
+
 -- one without
+pub returns-else-needs_nodes-clause-book_faults : goal.returns-else-needs_nodes-clause-book_faults
+returns-else-needs_nodes-clause-book_faults g c = unbooked _ _ _ (c.perform_alone.ensures.ends _ c.in-Ok.ensures.answers)
+
+pub returns-else-needs_nodes-clause-unbegun : goal.returns-else-needs_nodes-clause-unbegun
+returns-else-needs_nodes-clause-unbegun g c early = refl
+
+pub returns-else-needs_nodes-clause-unlogged : goal.returns-else-needs_nodes-clause-unlogged
+returns-else-needs_nodes-clause-unlogged g c none = refl
+
 pub returns-else-needs_nodes-clause-disk_faults : goal.returns-else-needs_nodes-clause-disk_faults
 returns-else-needs_nodes-clause-disk_faults g c = undisked _ _ _ (c.perform_alone.ensures.ends _ c.in-Ok.ensures.answers)
 
@@ -124,3 +142,12 @@ returns-in-Err-clause-unopened g c early = refl
 
 pub returns-in-Err-clause-unkept : goal.returns-in-Err-clause-unkept
 returns-in-Err-clause-unkept g c none = refl
+
+pub returns-in-Err-clause-book_faults : goal.returns-in-Err-clause-book_faults
+returns-in-Err-clause-book_faults g c = uncounted _ _ c.refusal.ensures.no_book
+
+pub returns-in-Err-clause-unbegun : goal.returns-in-Err-clause-unbegun
+returns-in-Err-clause-unbegun g c early = refl
+
+pub returns-in-Err-clause-unlogged : goal.returns-in-Err-clause-unlogged
+returns-in-Err-clause-unlogged g c none = refl

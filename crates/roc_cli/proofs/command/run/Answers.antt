@@ -2,7 +2,7 @@ use Rattle.std.proofs.Common.{refl}
 use Rattle.roc_cli.proofs.Fits.{fitting}
 use Rattle.roc_cli.proofs.Told.{fault_answers}
 use Rattle.roc_cli.proofs.Finished.{done_answers}
-use Rattle.roc_cli.proofs.Counts.{file_counted, sink_counted, link_counted, disk_counted, quiet_done, quiet_told, unkept_done, unkept_told}
+use Rattle.roc_cli.proofs.Counts.{file_counted, sink_counted, link_counted, disk_counted, book_counted, quiet_done, quiet_told, unkept_done, unkept_told, unlogged_done, unlogged_told}
 use Rattle.roc_cli.proofs.command.run.Goals as goal
 
 pub returns-in-Ok-clause-answers : goal.returns-in-Ok-clause-answers
@@ -70,3 +70,21 @@ returns-in-Ok-clause-undisked g c = unkept_done _ _ c.in-Ok.ensures.unkept
 
 pub returns-in-Err-clause-undisked : goal.returns-in-Err-clause-undisked
 returns-in-Err-clause-undisked g c = unkept_told _ c.in-Err.fault _ _ _ c.tell.ensures.told c.in-Err.ensures.unkept c.in-Err.ensures.unopened
+
+pub returns-in-Ok-clause-unexplained : goal.returns-in-Ok-clause-unexplained
+returns-in-Ok-clause-unexplained g c e = refl
+
+pub returns-in-Err-clause-unexplained : goal.returns-in-Err-clause-unexplained
+returns-in-Err-clause-unexplained g c = c.tell.ensures.unexplained
+
+pub returns-in-Ok-clause-book_faults : goal.returns-in-Ok-clause-book_faults
+returns-in-Ok-clause-book_faults g c = c.in-Ok.ensures.book_faults
+
+pub returns-in-Err-clause-book_faults : goal.returns-in-Err-clause-book_faults
+returns-in-Err-clause-book_faults g c = book_counted c.in-Err.fault _ _ _ _ c.tell.ensures.told c.in-Err.ensures.book_faults
+
+pub returns-in-Ok-clause-unbooked : goal.returns-in-Ok-clause-unbooked
+returns-in-Ok-clause-unbooked g c = unlogged_done _ _ c.in-Ok.ensures.unlogged
+
+pub returns-in-Err-clause-unbooked : goal.returns-in-Err-clause-unbooked
+returns-in-Err-clause-unbooked g c = unlogged_told _ c.in-Err.fault _ _ _ c.tell.ensures.told c.in-Err.ensures.unlogged c.in-Err.ensures.unbegun

@@ -1,7 +1,7 @@
 use Rattle.std.proofs.Common.{inl, refl}
 use Rattle.roc_cli_words.specs.Commands.{local}
 use Rattle.roc_cli_nodes.proofs.Looping.{local_ended}
-use Rattle.roc_cli_nodes.proofs.Reading.{files_undisked}
+use Rattle.roc_cli_nodes.proofs.Reading.{files_undisked, files_unbooked}
 use Rattle.roc_cli_nodes.proofs.running.local_files.Goals as goal
 
 -- the files were read
@@ -15,3 +15,6 @@ returns-in-Err-clause-ends g c words given = inl (_, (local _ _ _ _, given, refl
 
 pub returns-in-Err-clause-no_disk : goal.returns-in-Err-clause-no_disk
 returns-in-Err-clause-no_disk g c = files_undisked _ _ _ _ c.in-Err.fault c.in-Err.ensures.fails
+
+pub returns-in-Err-clause-no_book : goal.returns-in-Err-clause-no_book
+returns-in-Err-clause-no_book g c = files_unbooked _ _ _ _ c.in-Err.fault c.in-Err.ensures.fails

@@ -1,7 +1,7 @@
 use Rattle.std.proofs.Common.{inl, refl}
 use Rattle.roc_cli_words.specs.Commands.{stop}
 use Rattle.roc_cli_nodes.proofs.Looping.{stop_ended}
-use Rattle.roc_cli_nodes.proofs.Reading.{files_undisked}
+use Rattle.roc_cli_nodes.proofs.Reading.{files_undisked, files_unbooked}
 use Rattle.roc_cli_nodes.proofs.running.stop_files.Goals as goal
 
 -- the files were read
@@ -15,3 +15,6 @@ returns-in-Err-clause-ends g c words given = inl (_, (stop _ _, given, refl), c.
 
 pub returns-in-Err-clause-no_disk : goal.returns-in-Err-clause-no_disk
 returns-in-Err-clause-no_disk g c = files_undisked _ _ _ _ c.in-Err.fault c.in-Err.ensures.fails
+
+pub returns-in-Err-clause-no_book : goal.returns-in-Err-clause-no_book
+returns-in-Err-clause-no_book g c = files_unbooked _ _ _ _ c.in-Err.fault c.in-Err.ensures.fails
