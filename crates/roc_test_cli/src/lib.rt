@@ -1,9 +1,13 @@
-//! Tests of the program over files, streams, a link, children and a disk in memory that fail where told. It gives nothing to use.
+//! Tests of the program over files, streams, a link, children, a disk and a book in memory that fail where told. It gives nothing to use.
 #![tactic(auto)]
 
 #[cfg(test)]
-mod journals;
+mod cases;
 #[cfg(test)]
 mod nodes;
 #[cfg(test)]
-mod program;
+mod outside;
+#[cfg(test)]
+mod runs;
+#[cfg(test)]
+mod texts;

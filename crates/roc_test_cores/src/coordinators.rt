@@ -1,238 +1,216 @@
 //! What a coordinator makes of submissions and messages that no honest caller or node sends.
 ghost use Rattle.roc_coord.specs.Fits.{CoordFits};
 
-use crate::workloads::{counter, looked_at};
-use roc_base::{Edges, Nums, Shard, TxnId};
+use crate::datagrams::{
+    COMMIT, COMMITOK_7, COMMITOK_7_8, FIRST_READ, READOK_1, READOK_2, READOK_GROUP_1, READOK_OTHER,
+    READOK_SHARD_1, READOK_VERSIONS, STARTOK, STARTOK_OTHER, STARTOK_SHARD_1, STOP,
+};
+use crate::workloads::{COUNTER, LOOKED_AT};
+use roc_base::TxnId;
+use roc_check::check;
 use roc_coord::{Coord, Handled, SubmitFault};
-use roc_msg::{CellVersions, Facts, Msg, Outbox, Reason};
+use roc_msg::{Msg, NodeFault, Outbox, Reason};
 use roc_plan::Plan;
+use roc_wire::decode;
 use std::alloc::Global;
 use std::process::Abort;
 use std::test::Fail;
 
-const FIRST: TxnId = TxnId { coord: 0, seq: 0 };
-
-// What a coordinator is sent. A commitok has its numbers, a readok its round, group and
-// shard, and a count of versions.
-#[derive(Clone, Copy)]
-enum Sent {
-    StartOk(TxnId, u8),
-    CommitOk(&'static [i64]),
-    Commit,
-    Read,
-    ReadOk(TxnId, u32, u16, u8, u8),
-    Stop,
+// What is answered to a message.
+#[derive(Clone, Copy, Debug, PartialEq, Eq)]
+enum Answer {
+    Taken,
+    Replied,
+    Ignored(Reason),
+    None,
 }
 
-// What is sent, and why it is ignored where it is.
-type Case = (Sent, Option<Reason>);
+// A datagram, and what is answered to its message.
+type Row = (&'static [u8], Answer);
 
-fn message(alloc: Global, sent: Sent) -> Result<Msg, Fail> {
-    match sent {
-        Sent::StartOk(id, shard) => Ok(startok(alloc, id, shard)),
-        Sent::CommitOk(outs) => {
-            let outs = Nums::from_slice(alloc, outs)?;
-            let (id, shard) = (FIRST, Shard(0));
-            Ok(Msg::CommitOk { id, shard, outs })
-        }
-        Sent::Commit => Ok(Msg::Commit {
-            id: FIRST,
-            edges: Edges::new(alloc),
-            facts: Facts::new(alloc),
-        }),
-        Sent::Read => Ok(Msg::Read {
-            id: FIRST,
-            round: 1,
-            proc: 1,
-            group: 0,
-            args: Nums::new(alloc),
-        }),
-        Sent::ReadOk(id, round, group, shard, versions) => Ok(Msg::ReadOk {
-            id,
-            round,
-            group,
-            shard: Shard(shard),
-            versions: unwritten(alloc, versions)?,
-            outs: Nums::from_slice(alloc, &[5])?,
-        }),
-        Sent::Stop => Ok(Msg::Stop),
+// What is answered to a submission: the sequence of its id, or a fault.
+#[derive(Clone, Copy, Debug, PartialEq, Eq)]
+enum Submitted {
+    As(u32),
+    Refused(SubmitFault),
+}
+
+// A call, and what is answered to its submission.
+type Call = (u16, &'static [i64], Submitted);
+
+// A workload, the calls that are submitted in turn, what comes then, and how many are unanswered at the end.
+struct Case {
+    name: &'static str,
+    text: &'static [u8],
+    calls: &'static [Call],
+    rows: &'static [Row],
+    unanswered: usize,
+}
+
+const FORGED: Case = Case {
+    name: "forged messages are ignored",
+    text: COUNTER,
+    calls: &[(0, &[0], Submitted::As(0))],
+    rows: &[
+        (COMMIT, Answer::Ignored(Reason::Foreign)),
+        (STOP, Answer::Ignored(Reason::Foreign)),
+        (STARTOK_OTHER, Answer::Ignored(Reason::Stale)),
+        (STARTOK_SHARD_1, Answer::Ignored(Reason::Unfit)),
+        (COMMITOK_7, Answer::Ignored(Reason::Unfit)),
+        (FIRST_READ, Answer::Ignored(Reason::Foreign)),
+        (READOK_1, Answer::Ignored(Reason::Unfit)),
+    ],
+    unanswered: 1,
+};
+
+const READS: Case = Case {
+    name: "answers to reads are ignored for a fault",
+    text: LOOKED_AT,
+    calls: &[(1, &[0], Submitted::As(0))],
+    rows: &[
+        (STARTOK, Answer::Ignored(Reason::Unfit)),
+        (COMMITOK_7, Answer::Ignored(Reason::Unfit)),
+        (READOK_OTHER, Answer::Ignored(Reason::Stale)),
+        (READOK_2, Answer::Ignored(Reason::Stale)),
+        (READOK_GROUP_1, Answer::Ignored(Reason::Unfit)),
+        (READOK_SHARD_1, Answer::Ignored(Reason::Unfit)),
+        (READOK_VERSIONS, Answer::Ignored(Reason::Unfit)),
+        (READOK_1, Answer::Taken),
+        (READOK_1, Answer::Ignored(Reason::Stale)),
+        (READOK_2, Answer::Replied),
+        (READOK_2, Answer::Ignored(Reason::Stale)),
+    ],
+    unanswered: 0,
+};
+
+const REPEATED: Case = Case {
+    name: "repeated messages are ignored",
+    text: COUNTER,
+    calls: &[(0, &[0], Submitted::As(0))],
+    rows: &[
+        (STARTOK, Answer::Taken),
+        (STARTOK, Answer::Ignored(Reason::Stale)),
+        (COMMITOK_7_8, Answer::Ignored(Reason::Unfit)),
+        (COMMITOK_7, Answer::Replied),
+        (COMMITOK_7, Answer::Ignored(Reason::Stale)),
+    ],
+    unanswered: 0,
+};
+
+const REFUSED: Case = Case {
+    name: "submissions are refused for a fault",
+    text: COUNTER,
+    calls: &[
+        (1, &[1], Submitted::Refused(SubmitFault::NoProc)),
+        (0, &[1, 2], Submitted::Refused(SubmitFault::Args)),
+        (0, &[1], Submitted::As(0)),
+        (0, &[1], Submitted::As(1)),
+        (0, &[1], Submitted::As(2)),
+        (0, &[1], Submitted::As(3)),
+        (0, &[1], Submitted::As(4)),
+        (0, &[1], Submitted::As(5)),
+        (0, &[1], Submitted::As(6)),
+        (0, &[1], Submitted::As(7)),
+        (0, &[1], Submitted::As(8)),
+        (0, &[1], Submitted::As(9)),
+        (0, &[1], Submitted::As(10)),
+        (0, &[1], Submitted::As(11)),
+        (0, &[1], Submitted::As(12)),
+        (0, &[1], Submitted::As(13)),
+        (0, &[1], Submitted::As(14)),
+        (0, &[1], Submitted::As(15)),
+        (0, &[1], Submitted::Refused(SubmitFault::Busy)),
+    ],
+    rows: &[],
+    unanswered: 16,
+};
+
+const CASES: [Case; 4] = [FORGED, READS, REPEATED, REFUSED];
+
+fn answer_of(answer: Result<Handled, NodeFault>) -> Answer {
+    match answer {
+        Ok(Handled::Done) => Answer::Taken,
+        Ok(Handled::Answered { .. }) => Answer::Replied,
+        Ok(Handled::Ignored(reason)) => Answer::Ignored(reason),
+        Err(_) => Answer::None,
     }
 }
 
-// The versions of so many cells that nobody wrote.
-fn unwritten(alloc: Global, count: u8) -> Result<CellVersions, Fail> {
-    let mut versions = CellVersions::new(alloc);
-    for _ in 0..count {
-        versions.push(0)?;
-    }
-    Ok(versions)
-}
-
-fn startok(alloc: Global, id: TxnId, shard: u8) -> Msg {
-    Msg::StartOk {
-        id,
-        group: 0,
-        shard: Shard(shard),
-        bound: Nums::new(alloc),
-        outs: Nums::new(alloc),
-        edges: Edges::new(alloc),
-        facts: Facts::new(alloc),
+fn submission_of(answer: Result<TxnId, SubmitFault>) -> Submitted {
+    match answer {
+        Ok(id) => Submitted::As(id.seq),
+        Err(fault) => Submitted::Refused(fault),
     }
 }
 
-// Submits a call, and has it refused for a fault or accepted.
-fn submits(
-    rt: &impl Abort,
-    plan: &Plan,
-    coord: &mut Coord,
-    proc: u16,
-    args: &[i64],
-    outbox: &mut Outbox,
-    wanted: Result<TxnId, SubmitFault>,
-)
+fn handles(plan: &Plan, coord: &mut Coord, msg: &Msg, outbox: &mut Outbox) -> Answer
     requires fits { CoordFits plan.now coord.old }
     ensures { CoordFits plan.now coord.new }
 {
-    let answer = coord.submit(plan, proc, args, outbox);
-    assert_eq!(rt; answer, wanted);
+    answer_of(coord.handle(plan, msg, outbox))
 }
 
-// Has a message taken, or ignored for a reason.
-fn handles(
-    rt: &impl Abort,
-    plan: &Plan,
-    coord: &mut Coord,
-    msg: &Msg,
-    outbox: &mut Outbox,
-    wanted: Option<Reason>,
-)
+fn takes(alloc: Global, plan: &Plan, coord: &mut Coord, bytes: &[u8], outbox: &mut Outbox) -> Answer
     requires fits { CoordFits plan.now coord.old }
     ensures { CoordFits plan.now coord.new }
 {
-    let found = match coord.handle(plan, msg, outbox) {
-        Ok(Handled::Done | Handled::Answered { .. }) => None,
-        Ok(Handled::Ignored(reason)) => Some(reason),
-        Err(_) => panic!(rt; "no memory"),
-    };
-    assert_eq!(rt; found, wanted);
+    match decode(alloc, bytes) {
+        Ok((_, msg)) => handles(plan, coord, &msg, outbox),
+        Err(_) => Answer::None,
+    }
 }
 
-// Has messages handled in turn.
-fn handles_all(
+fn takes_all(
     rt: &impl Abort,
     alloc: Global,
     plan: &Plan,
     coord: &mut Coord,
-    cases: &[Case],
+    case: &Case,
     outbox: &mut Outbox,
-) -> Result<(), Fail>
+)
     requires fits { CoordFits plan.now coord.old }
+    ensures { CoordFits plan.now coord.new }
 {
-    for (sent, wanted) in cases {
-        let msg = message(alloc, *sent)?;
-        handles(rt, plan, coord, &msg, outbox, *wanted);
+    for (bytes, wanted) in case.rows {
+        assert_eq!(rt;
+            takes(alloc, plan, coord, bytes, outbox),
+            *wanted,
+            "{}",
+            case.name
+        );
     }
-    Ok(())
 }
 
-// Has messages handled in turn by a coordinator that submitted one call, of a procedure with an argument.
-fn check(
-    rt: &impl Abort,
-    alloc: Global,
-    plan: &Plan,
-    proc: u16,
-    cases: &[Case],
-) -> Result<(), Fail> {
-    let mut coord = Coord::new(alloc, 0);
+fn submits(rt: &impl Abort, plan: &Plan, coord: &mut Coord, case: &Case, outbox: &mut Outbox)
+    requires fits { CoordFits plan.now coord.old }
+    ensures { CoordFits plan.now coord.new }
+{
+    for (proc, args, wanted) in case.calls {
+        let answer = submission_of(coord.submit(plan, *proc, args, outbox));
+        assert_eq!(rt; answer, *wanted, "{}", case.name);
+    }
+}
+
+fn coordinates(rt: &impl Abort, alloc: Global, plan: &Plan, coord: &mut Coord, case: &Case)
+    requires fits { CoordFits plan.now coord.old }
+    ensures { CoordFits plan.now coord.new }
+{
     let mut outbox = Outbox::new(alloc);
-    submits(rt, plan, &mut coord, proc, &[0], &mut outbox, Ok(FIRST));
-    handles_all(rt, alloc, plan, &mut coord, cases, &mut outbox)
+    submits(rt, plan, coord, case, &mut outbox);
+    takes_all(rt, alloc, plan, coord, case, &mut outbox);
+    assert_eq!(rt; coord.unanswered().len(), case.unanswered, "{}", case.name);
+}
+
+fn coordinates_first(rt: &impl Abort, alloc: Global, plan: &Plan, case: &Case) {
+    let mut coord = Coord::new(alloc, 0);
+    coordinates(rt, alloc, plan, &mut coord, case);
 }
 
 #[test]
-fn forged_messages_are_ignored(rt: HostRuntime) -> Result<(), Fail> {
-    let other = TxnId { coord: 0, seq: 1 };
-    let cases = [
-        (Sent::Commit, Some(Reason::Foreign)),
-        (Sent::Stop, Some(Reason::Foreign)),
-        (Sent::StartOk(other, 0), Some(Reason::Stale)),
-        (Sent::StartOk(FIRST, 1), Some(Reason::Unfit)),
-        (Sent::CommitOk(&[7]), Some(Reason::Unfit)),
-        (Sent::Read, Some(Reason::Foreign)),
-        (Sent::ReadOk(FIRST, 1, 0, 0, 1), Some(Reason::Unfit)),
-    ];
-    check(&rt, rt.alloc(), &counter(rt.alloc())?, 0, &cases)
-}
-
-#[test]
-fn readoks_are_ignored_for_a_fault(rt: HostRuntime) -> Result<(), Fail> {
-    let other = TxnId { coord: 0, seq: 1 };
-    let cases = [
-        (Sent::StartOk(FIRST, 0), Some(Reason::Unfit)),
-        (Sent::CommitOk(&[7]), Some(Reason::Unfit)),
-        (Sent::ReadOk(other, 1, 0, 0, 1), Some(Reason::Stale)),
-        (Sent::ReadOk(FIRST, 2, 0, 0, 1), Some(Reason::Stale)),
-        (Sent::ReadOk(FIRST, 1, 1, 0, 1), Some(Reason::Unfit)),
-        (Sent::ReadOk(FIRST, 1, 0, 1, 1), Some(Reason::Unfit)),
-        (Sent::ReadOk(FIRST, 1, 0, 0, 2), Some(Reason::Unfit)),
-        (Sent::ReadOk(FIRST, 1, 0, 0, 1), None),
-        (Sent::ReadOk(FIRST, 1, 0, 0, 1), Some(Reason::Stale)),
-        (Sent::ReadOk(FIRST, 2, 0, 0, 1), None),
-        (Sent::ReadOk(FIRST, 2, 0, 0, 1), Some(Reason::Stale)),
-    ];
-    check(&rt, rt.alloc(), &looked_at(rt.alloc())?, 1, &cases)
-}
-
-#[test]
-fn repeated_messages_are_ignored(rt: HostRuntime) -> Result<(), Fail> {
-    let cases = [
-        (Sent::StartOk(FIRST, 0), None),
-        (Sent::StartOk(FIRST, 0), Some(Reason::Stale)),
-        (Sent::CommitOk(&[7, 8]), Some(Reason::Unfit)),
-        (Sent::CommitOk(&[7]), None),
-        (Sent::CommitOk(&[7]), Some(Reason::Stale)),
-    ];
-    check(&rt, rt.alloc(), &counter(rt.alloc())?, 0, &cases)
-}
-
-// Submits as many additions as may be unanswered.
-fn fills(rt: &impl Abort, plan: &Plan, coord: &mut Coord, outbox: &mut Outbox)
-    requires fits { CoordFits plan.now coord.old }
-    ensures { CoordFits plan.now coord.new }
-{
-    for seq in 0..16 {
-        let id = TxnId { coord: 0, seq };
-        submits(rt, plan, coord, 0, &[1], outbox, Ok(id));
+fn coordinators_answer(rt: HostRuntime) -> Result<(), Fail> {
+    for case in &CASES {
+        let plan = check(rt.alloc(), case.text)?;
+        coordinates_first(&rt, rt.alloc(), &plan, case);
     }
-}
-
-// Has submissions refused in turn, each for its fault.
-fn refuses(
-    rt: &impl Abort,
-    plan: &Plan,
-    coord: &mut Coord,
-    faults: &[(u16, &[i64], SubmitFault)],
-    outbox: &mut Outbox,
-)
-    requires fits { CoordFits plan.now coord.old }
-{
-    for (proc, args, fault) in faults {
-        submits(rt, plan, coord, *proc, args, outbox, Err(*fault));
-    }
-}
-
-#[test]
-fn submissions_are_refused_for_a_fault(rt: HostRuntime) -> Result<(), Fail> {
-    let plan = counter(rt.alloc())?;
-    let mut coord = Coord::new(rt.alloc(), 0);
-    let mut outbox = Outbox::new(rt.alloc());
-    fills(&rt, &plan, &mut coord, &mut outbox);
-    let faults: [(u16, &[i64], SubmitFault); 3] = [
-        (1, &[1], SubmitFault::NoProc),
-        (0, &[1, 2], SubmitFault::Args),
-        (0, &[1], SubmitFault::Busy),
-    ];
-    refuses(&rt, &plan, &mut coord, faults.as_slice(), &mut outbox);
-    assert_eq!(rt; coord.unanswered().len(), 16);
     Ok(())
 }

@@ -1,11 +1,11 @@
 //! Tests of servers and coordinators with messages that no honest node sends, of watermarks and of what waits, and of whole runs of
-//! procedures. It gives nothing to use.
+//! procedures, as tables. It gives nothing to use.
 #![tactic(auto)]
 
 #[cfg(test)]
 mod coordinators;
 #[cfg(test)]
-mod marks;
+mod datagrams;
 #[cfg(test)]
 mod servers;
 #[cfg(test)]

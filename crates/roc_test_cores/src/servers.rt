@@ -1,228 +1,240 @@
-//! What a server makes of messages that no honest node sends, and of repeated ones; and the entries that a start is given.
+//! What a server makes of messages that no honest node sends, of repeated ones and of watermarks, and what it tells then.
 ghost use Rattle.std.specs.Prelude.{◌≡◌, ◌<◌};
 ghost use Rattle.roc_server.specs.Ahead.{ServingFits};
 ghost use Rattle.roc_step.specs.Fits.{ServerFits};
 
-use crate::workloads::{counter, looked_at, twins};
-use roc_base::{Edge, Edges, Key, Nums, Shard, Steps, TxnId};
-use roc_depgraph::KnownList;
+use crate::datagrams::{
+    CIRCLE, CIRCLE_BACK, COMMIT, COMMIT_BEHIND, COMMITOK, ENDED_2, ENDED_3, FETCH, KNOWN, NO_ARGS,
+    NO_GROUP, NO_PROC, READ, READ_GROUP_1, READ_NO_ARGS, READ_OF_0, READ_OF_2, READ_PLACE_1,
+    READOK, SECOND_START, SETTLED, START, START_AGAIN, STOP, TORN_COMMIT,
+};
+use crate::workloads::{COUNTER, LOOKED_AT, TWINS};
+use roc_base::{Edges, Key, Shard, Steps, TxnId};
+use roc_check::check;
 use roc_group::Access;
-use roc_msg::{CellVersions, Facts, Msg, NodeFault, Outbox, Reason};
+use roc_msg::{Msg, NodeFault, Outbox, Reason};
 use roc_plan::{Class, Plan};
 use roc_rows::Cell;
 use roc_server::{Handled, Server};
+use roc_wire::decode;
 use std::alloc::Global;
 use std::marker::Brand;
 use std::process::Abort;
 use std::sync::ledger::{Blank, Ledger};
 use std::test::Fail;
 
+// What is answered to a message.
+#[derive(Clone, Copy, Debug, PartialEq, Eq)]
+enum Answer {
+    Done,
+    Gone,
+    Ignored(Reason),
+    None,
+}
+
+// A datagram, and what is answered to its message.
+type Row = (&'static [u8], Answer);
+
+// A workload, what a server of its first shard is sent in turn, how many messages it sends, how many groups wait on it then, and who
+// precedes a transaction that would write the counter, by deferrable groups and by immediate ones.
+struct Case {
+    name: &'static str,
+    text: &'static [u8],
+    rows: &'static [Row],
+    sent: usize,
+    waiting: usize,
+    preceding: [&'static [TxnId]; 2],
+}
+
 const FIRST: TxnId = TxnId { coord: 0, seq: 0 };
 
 const SECOND: TxnId = TxnId { coord: 1, seq: 0 };
 
-// What a server is sent. A start and a read have an argument or none, a commit an entry or none.
-#[derive(Clone, Copy)]
-enum Sent {
-    Start(TxnId, u16, u16, Option<i64>),
-    Commit(TxnId, Option<Edge>),
-    TornCommit,
-    CommitOk,
-    Fetch,
-    Known,
-    Read(u16, u16, Option<i64>),
-    ReadOk,
-    Stop,
-}
+const FORGED: Case = Case {
+    name: "forged messages are ignored",
+    text: COUNTER,
+    rows: &[
+        (COMMITOK, Answer::Ignored(Reason::Foreign)),
+        (STOP, Answer::Ignored(Reason::Foreign)),
+        (NO_PROC, Answer::Ignored(Reason::BadProc)),
+        (NO_GROUP, Answer::Ignored(Reason::BadGroup)),
+        (NO_ARGS, Answer::Ignored(Reason::BadInputs)),
+        (COMMIT, Answer::Ignored(Reason::NotHere)),
+        (FETCH, Answer::Ignored(Reason::NotHere)),
+        (KNOWN, Answer::Ignored(Reason::NotHere)),
+    ],
+    sent: 0,
+    waiting: 0,
+    preceding: [&[], &[]],
+};
 
-// What is sent, and why it is ignored where it is.
-type Case = (Sent, Option<Reason>);
+const WAITING: Case = Case {
+    name: "a group waits until it is decided",
+    text: COUNTER,
+    rows: &[(START, Answer::Done)],
+    sent: 1,
+    waiting: 1,
+    preceding: [&[FIRST], &[]],
+};
 
-fn message(alloc: Global, sent: Sent) -> Result<Msg, Fail> {
-    let id = FIRST;
-    match sent {
-        Sent::Start(id, proc, group, arg) => start(alloc, id, proc, group, arg),
-        Sent::Commit(id, before) => commit(alloc, id, before),
-        Sent::TornCommit => torn_commit(alloc),
-        Sent::CommitOk => Ok(commitok(alloc)),
-        Sent::Fetch => {
-            let asker = Shard(63);
-            Ok(Msg::Fetch { id, asker })
-        }
-        Sent::Known => {
-            let edges = Edges::new(alloc);
-            Ok(Msg::Known { id, edges })
-        }
-        Sent::Read(proc, group, arg) => read(alloc, proc, group, arg),
-        Sent::ReadOk => Ok(readok(alloc)),
-        Sent::Stop => Ok(Msg::Stop),
-    }
-}
+const READS: Case = Case {
+    name: "reads are refused for a fault, and wait",
+    text: LOOKED_AT,
+    rows: &[
+        (READOK, Answer::Ignored(Reason::Foreign)),
+        (NO_PROC, Answer::Ignored(Reason::BadProc)),
+        (READ_OF_0, Answer::Ignored(Reason::BadProc)),
+        (READ_OF_2, Answer::Ignored(Reason::BadProc)),
+        (READ_GROUP_1, Answer::Ignored(Reason::BadGroup)),
+        (READ_NO_ARGS, Answer::Ignored(Reason::BadInputs)),
+        (READ_PLACE_1, Answer::Ignored(Reason::NotHere)),
+        (START, Answer::Done),
+        (READ, Answer::Done),
+        (COMMIT, Answer::Done),
+    ],
+    sent: 3,
+    waiting: 0,
+    preceding: [&[], &[]],
+};
 
-fn given(alloc: Global, arg: Option<i64>) -> Result<Nums, Fail> {
-    let mut args = Nums::new(alloc);
-    if let Some(arg) = arg {
-        args.push(arg)?;
-    }
-    Ok(args)
-}
+const REPEATED: Case = Case {
+    name: "repeated messages are answered again",
+    text: COUNTER,
+    rows: &[
+        (START, Answer::Done),
+        (START, Answer::Done),
+        (START_AGAIN, Answer::Ignored(Reason::Differs)),
+        (COMMIT, Answer::Done),
+        (COMMIT, Answer::Done),
+    ],
+    sent: 4,
+    waiting: 0,
+    preceding: [&[], &[]],
+};
 
-// A read of the first round.
-fn read(alloc: Global, proc: u16, group: u16, arg: Option<i64>) -> Result<Msg, Fail> {
-    let args = given(alloc, arg)?;
-    Ok(Msg::Read {
-        id: SECOND,
-        round: 1,
-        proc,
-        group,
-        args,
-    })
-}
+const UNLIKE: Case = Case {
+    name: "unlike lists are ignored",
+    text: COUNTER,
+    rows: &[
+        (START, Answer::Done),
+        (TORN_COMMIT, Answer::Ignored(Reason::Differs)),
+        (COMMIT_BEHIND, Answer::Done),
+        (COMMIT, Answer::Ignored(Reason::Differs)),
+    ],
+    sent: 2,
+    waiting: 1,
+    preceding: [&[FIRST], &[]],
+};
 
-fn readok(alloc: Global) -> Msg {
-    Msg::ReadOk {
-        id: SECOND,
-        round: 1,
-        group: 0,
-        shard: Shard(0),
-        versions: CellVersions::new(alloc),
-        outs: Nums::new(alloc),
-    }
-}
+const LATE: Case = Case {
+    name: "a group that starts late is ignored",
+    text: TWINS,
+    rows: &[
+        (START, Answer::Done),
+        (COMMIT, Answer::Done),
+        (NO_GROUP, Answer::Ignored(Reason::Late)),
+        (FETCH, Answer::Done),
+    ],
+    sent: 3,
+    waiting: 0,
+    preceding: [&[], &[]],
+};
 
-fn start(alloc: Global, id: TxnId, proc: u16, group: u16, arg: Option<i64>) -> Result<Msg, Fail> {
-    let args = given(alloc, arg)?;
-    let inputs = Nums::new(alloc);
-    Ok(Msg::Start {
-        id,
-        proc,
-        group,
-        args,
-        inputs,
-    })
-}
+const CIRCLES: Case = Case {
+    name: "a circle of immediate edges is taken",
+    text: COUNTER,
+    rows: &[
+        (START, Answer::Done),
+        (SECOND_START, Answer::Done),
+        (CIRCLE, Answer::Done),
+        (CIRCLE_BACK, Answer::Done),
+    ],
+    sent: 4,
+    waiting: 0,
+    preceding: [&[], &[]],
+};
 
-fn commitok(alloc: Global) -> Msg {
-    Msg::CommitOk {
-        id: FIRST,
-        shard: Shard(0),
-        outs: Nums::new(alloc),
-    }
-}
+const HEARD: Case = Case {
+    name: "watermarks are heard",
+    text: COUNTER,
+    rows: &[
+        (ENDED_3, Answer::Done),
+        (ENDED_2, Answer::Done),
+        (SETTLED, Answer::Gone),
+        (START, Answer::Gone),
+    ],
+    sent: 0,
+    waiting: 0,
+    preceding: [&[], &[]],
+};
 
-fn edges(alloc: Global, before: Option<Edge>) -> Result<Edges, Fail> {
-    let mut edges = Edges::new(alloc);
-    if let Some(before) = before {
-        edges.unite(&[before])?;
-    }
-    Ok(edges)
-}
+const CASES: [Case; 8] = [
+    FORGED, WAITING, READS, REPEATED, UNLIKE, LATE, CIRCLES, HEARD,
+];
 
-fn commit(alloc: Global, id: TxnId, before: Option<Edge>) -> Result<Msg, Fail> {
-    let edges = edges(alloc, before)?;
-    let facts = Facts::new(alloc);
-    Ok(Msg::Commit { id, edges, facts })
-}
-
-// A commit with a fact that is unlike its own list.
-fn torn_commit(alloc: Global) -> Result<Msg, Fail> {
-    let mut facts = Facts::new(alloc);
-    let of = FIRST;
-    let torn = edges(alloc, Some(deferrable(SECOND)))?;
-    facts.push(KnownList { of, edges: torn })?;
-    let id = FIRST;
-    let edges = Edges::new(alloc);
-    Ok(Msg::Commit { id, edges, facts })
-}
-
-fn deferrable(from: TxnId) -> Edge {
-    Edge::new(from, false, true, Shard(0))
-}
-
-fn immediate(from: TxnId) -> Edge {
-    Edge::new(from, true, false, Shard(0))
-}
-
-// What a server answers: a reason where it ignores the message.
-fn reason_of(rt: &impl Abort, answer: Result<Handled, NodeFault>) -> Option<Reason> {
+fn answer_of(answer: Result<Handled, NodeFault>) -> Answer {
     match answer {
-        Ok(Handled::Done | Handled::Gone) => None,
-        Ok(Handled::Ignored(reason)) => Some(reason),
-        Err(_) => panic!(rt; "no memory"),
+        Ok(Handled::Done) => Answer::Done,
+        Ok(Handled::Gone) => Answer::Gone,
+        Ok(Handled::Ignored(reason)) => Answer::Ignored(reason),
+        Err(_) => Answer::None,
     }
 }
 
-// Has a message made ahead, and taken, or ignored for a reason.
-fn handles(
-    rt: &impl Abort,
+// Has a message made ahead, and then handled: both are answered alike.
+fn handles(plan: &Plan, server: &mut Server, msg: &Msg, outbox: &mut Outbox) -> Answer
+    requires fits { ServingFits plan.now server.old }
+    ensures { ServingFits plan.now server.new }
+{
+    let ahead = answer_of(server.ready(plan, msg, outbox));
+    let now = answer_of(server.handle(plan, msg, outbox));
+    if ahead == now { now } else { Answer::None }
+}
+
+fn takes(
+    alloc: Global,
     plan: &Plan,
     server: &mut Server,
-    msg: &Msg,
+    bytes: &[u8],
     outbox: &mut Outbox,
-    wanted: Option<Reason>,
+) -> Answer
+    requires fits { ServingFits plan.now server.old }
+    ensures { ServingFits plan.now server.new }
+{
+    match decode(alloc, bytes) {
+        Ok((_, msg)) => handles(plan, server, &msg, outbox),
+        Err(_) => Answer::None,
+    }
+}
+
+fn takes_all(
+    rt: &impl Abort,
+    alloc: Global,
+    plan: &Plan,
+    server: &mut Server,
+    case: &Case,
+    outbox: &mut Outbox,
 )
     requires fits { ServingFits plan.now server.old }
     ensures { ServingFits plan.now server.new }
 {
-    assert_eq!(rt; reason_of(rt, server.ready(plan, msg, outbox)), wanted);
-    assert_eq!(rt; reason_of(rt, server.handle(plan, msg, outbox)), wanted);
-}
-
-// Has messages handled in turn.
-fn handles_all(
-    rt: &impl Abort,
-    alloc: Global,
-    plan: &Plan,
-    server: &mut Server,
-    cases: &[Case],
-    outbox: &mut Outbox,
-) -> Result<(), Fail>
-    requires fits { ServingFits plan.now server.old }
-    ensures { ServingFits plan.now server.new }
-{
-    for (sent, wanted) in cases {
-        let msg = message(alloc, *sent)?;
-        handles(rt, plan, server, &msg, outbox, *wanted);
+    for (bytes, wanted) in case.rows {
+        assert_eq!(rt;
+            takes(alloc, plan, server, bytes, outbox),
+            *wanted,
+            "{}",
+            case.name
+        );
     }
-    Ok(())
 }
 
-// Has messages handled in turn by a server, which sends so many in all.
-fn sends(
-    rt: &impl Abort,
-    alloc: Global,
-    plan: &Plan,
-    server: &mut Server,
-    cases: &[Case],
-    sent: usize,
-) -> Result<(), Fail>
-    requires fits { ServingFits plan.now server.old }
-{
-    let mut outbox = Outbox::new(alloc);
-    handles_all(rt, alloc, plan, server, cases, &mut outbox)?;
-    assert_eq!(rt; outbox.messages().len(), sent);
-    Ok(())
-}
-
-// The same of a new server.
-fn check(
-    rt: &impl Abort,
-    alloc: Global,
-    plan: &Plan,
-    cases: &[Case],
-    sent: usize,
-) -> Result<(), Fail> {
-    let mut server = Server::new(alloc, plan, Shard(0))?;
-    sends(rt, alloc, plan, &mut server, cases, sent)
-}
-
-// The entries of a second transaction's group that would write the counter.
+// The entries of a second transaction's group of this class that would write the counter.
 fn counted_entries<L: Ledger>(
     plan: &Plan,
     server: &Server,
     class: Class,
     blank: Blank,
-) -> Result<Edges, Fail>
+) -> Option<Edges>
     requires fits { ServerFits plan.now server.now.state }
     requires name { blank.name ≡ L.name }
     requires parts { blank.parts ≡ L.parts }
@@ -236,146 +248,63 @@ fn counted_entries<L: Ledger>(
     };
     let cells = [Access { cell, writes: true }];
     let mut steps = Steps::<L>::new(blank);
-    Ok(server.entries(plan, SECOND, class, &cells, &mut steps)?)
+    server.entries(plan, SECOND, class, &cells, &mut steps).ok()
 }
 
-fn entries(plan: &Plan, server: &Server, class: Class) -> Result<Edges, Fail>
+fn are_entries(edges: &Edges, wanted: &[TxnId]) -> bool {
+    let from = edges.as_slice().iter().map(|edge| edge.from());
+    from.eq(wanted.iter().copied())
+}
+
+fn precede(plan: &Plan, server: &Server, class: Class, wanted: &[TxnId]) -> bool
     requires fits { ServerFits plan.now server.now.state }
 {
-    counted_entries::<Brand>(plan, server, class, Blank::new(1))
+    match counted_entries::<Brand>(plan, server, class, Blank::new(1)) {
+        Some(edges) => are_entries(&edges, wanted),
+        None => false,
+    }
 }
 
-// The entries of each class, deferrable first.
-fn entries_of_both(plan: &Plan, server: &Server) -> Result<(Edges, Edges), Fail>
+fn tells(rt: &impl Abort, plan: &Plan, server: &Server, case: &Case)
     requires fits { ServerFits plan.now server.now.state }
 {
-    let deferrable = entries(plan, server, Class::Deferrable)?;
-    Ok((deferrable, entries(plan, server, Class::Immediate)?))
+    assert!(rt;
+        precede(plan, server, Class::Deferrable, case.preceding[0]),
+        "{}",
+        case.name
+    );
+    assert!(rt;
+        precede(plan, server, Class::Immediate, case.preceding[1]),
+        "{}",
+        case.name
+    );
+    match server.waiting(plan) {
+        Ok(waiting) => assert_eq!(rt; waiting.len(), case.waiting, "{}", case.name),
+        Err(_) => panic!(rt; "no memory"),
+    }
 }
 
-// The same after messages that are handled in turn.
-fn entries_after(
-    rt: &impl Abort,
-    alloc: Global,
-    plan: &Plan,
-    server: &mut Server,
-    cases: &[Case],
-) -> Result<(Edges, Edges), Fail>
+fn serves(rt: &impl Abort, alloc: Global, plan: &Plan, server: &mut Server, case: &Case)
     requires fits { ServingFits plan.now server.old }
+    ensures { ServingFits plan.now server.new }
 {
     let mut outbox = Outbox::new(alloc);
-    handles_all(rt, alloc, plan, server, cases, &mut outbox)?;
-    entries_of_both(plan, server)
+    takes_all(rt, alloc, plan, server, case, &mut outbox);
+    assert_eq!(rt; outbox.messages().len(), case.sent, "{}", case.name);
+    tells(rt, plan, server, case);
 }
 
-// The same of a new server.
-fn entries_behind(
-    rt: &impl Abort,
-    alloc: Global,
-    plan: &Plan,
-    cases: &[Case],
-) -> Result<(Edges, Edges), Fail> {
+fn serves_first(rt: &impl Abort, alloc: Global, plan: &Plan, case: &Case) -> Result<(), Fail> {
     let mut server = Server::new(alloc, plan, Shard(0))?;
-    entries_after(rt, alloc, plan, &mut server, cases)
-}
-
-#[test]
-fn entries_name_what_is_undecided(rt: HostRuntime) -> Result<(), Fail> {
-    let alloc = rt.alloc();
-    let cases = [(Sent::Start(FIRST, 0, 0, Some(5)), None)];
-    let found = entries_behind(&rt, alloc, &counter(alloc)?, &cases)?;
-    assert_eq!(&rt;
-        found,
-        (edges(alloc, Some(deferrable(FIRST)))?, Edges::new(alloc))
-    );
+    serves(rt, alloc, plan, &mut server, case);
     Ok(())
 }
 
 #[test]
-fn entries_leave_out_what_is_decided(rt: HostRuntime) -> Result<(), Fail> {
-    let alloc = rt.alloc();
-    let cases = [
-        (Sent::Start(FIRST, 0, 0, Some(5)), None),
-        (Sent::Commit(FIRST, None), None),
-    ];
-    let found = entries_behind(&rt, alloc, &counter(alloc)?, &cases)?;
-    assert_eq!(&rt; found, (Edges::new(alloc), Edges::new(alloc)));
+fn servers_answer_and_tell(rt: HostRuntime) -> Result<(), Fail> {
+    for case in &CASES {
+        let plan = check(rt.alloc(), case.text)?;
+        serves_first(&rt, rt.alloc(), &plan, case)?;
+    }
     Ok(())
-}
-
-#[test]
-fn forged_messages_are_ignored(rt: HostRuntime) -> Result<(), Fail> {
-    let cases = [
-        (Sent::CommitOk, Some(Reason::Foreign)),
-        (Sent::Stop, Some(Reason::Foreign)),
-        (Sent::Start(FIRST, 1, 0, Some(5)), Some(Reason::BadProc)),
-        (Sent::Start(FIRST, 0, 1, Some(5)), Some(Reason::BadGroup)),
-        (Sent::Start(FIRST, 0, 0, None), Some(Reason::BadInputs)),
-        (Sent::Commit(FIRST, None), Some(Reason::NotHere)),
-        (Sent::Fetch, Some(Reason::NotHere)),
-        (Sent::Known, Some(Reason::NotHere)),
-    ];
-    check(&rt, rt.alloc(), &counter(rt.alloc())?, &cases, 0)
-}
-
-#[test]
-fn reads_are_refused_for_a_fault_and_wait(rt: HostRuntime) -> Result<(), Fail> {
-    let cases = [
-        (Sent::ReadOk, Some(Reason::Foreign)),
-        (Sent::Start(FIRST, 1, 0, Some(0)), Some(Reason::BadProc)),
-        (Sent::Read(0, 0, Some(0)), Some(Reason::BadProc)),
-        (Sent::Read(2, 0, Some(0)), Some(Reason::BadProc)),
-        (Sent::Read(1, 1, Some(0)), Some(Reason::BadGroup)),
-        (Sent::Read(1, 0, None), Some(Reason::BadInputs)),
-        (Sent::Read(1, 0, Some(1)), Some(Reason::NotHere)),
-        (Sent::Start(FIRST, 0, 0, Some(5)), None),
-        (Sent::Read(1, 0, Some(0)), None),
-        (Sent::Commit(FIRST, None), None),
-    ];
-    check(&rt, rt.alloc(), &looked_at(rt.alloc())?, &cases, 3)
-}
-
-#[test]
-fn repeated_messages_are_answered_again(rt: HostRuntime) -> Result<(), Fail> {
-    let cases = [
-        (Sent::Start(FIRST, 0, 0, Some(5)), None),
-        (Sent::Start(FIRST, 0, 0, Some(5)), None),
-        (Sent::Start(FIRST, 0, 0, Some(6)), Some(Reason::Differs)),
-        (Sent::Commit(FIRST, None), None),
-        (Sent::Commit(FIRST, None), None),
-    ];
-    check(&rt, rt.alloc(), &counter(rt.alloc())?, &cases, 4)
-}
-
-#[test]
-fn unlike_lists_are_ignored(rt: HostRuntime) -> Result<(), Fail> {
-    let cases = [
-        (Sent::Start(FIRST, 0, 0, Some(5)), None),
-        (Sent::TornCommit, Some(Reason::Differs)),
-        (Sent::Commit(FIRST, Some(deferrable(SECOND))), None),
-        (Sent::Commit(FIRST, None), Some(Reason::Differs)),
-    ];
-    check(&rt, rt.alloc(), &counter(rt.alloc())?, &cases, 2)
-}
-
-#[test]
-fn a_group_that_starts_late_is_ignored(rt: HostRuntime) -> Result<(), Fail> {
-    let cases = [
-        (Sent::Start(FIRST, 0, 0, Some(5)), None),
-        (Sent::Commit(FIRST, None), None),
-        (Sent::Start(FIRST, 0, 1, Some(5)), Some(Reason::Late)),
-        (Sent::Fetch, None),
-    ];
-    check(&rt, rt.alloc(), &twins(rt.alloc())?, &cases, 3)
-}
-
-#[test]
-fn a_circle_of_immediate_edges_is_taken(rt: HostRuntime) -> Result<(), Fail> {
-    let cases = [
-        (Sent::Start(FIRST, 0, 0, Some(5)), None),
-        (Sent::Start(SECOND, 0, 0, Some(5)), None),
-        (Sent::Commit(FIRST, Some(immediate(SECOND))), None),
-        (Sent::Commit(SECOND, Some(immediate(FIRST))), None),
-    ];
-    check(&rt, rt.alloc(), &counter(rt.alloc())?, &cases, 4)
 }

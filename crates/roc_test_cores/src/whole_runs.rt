@@ -1,6 +1,6 @@
 //! Whole runs of procedures, which no command makes: the replies and cells that the serial order is judged by.
-use crate::workloads::workload_of;
 use roc_base::{Key, Nums};
+use roc_check::check;
 use roc_program::Workload;
 use roc_rows::{Cell, Rows};
 use roc_whole::{run_whole, start_rows};
@@ -38,7 +38,26 @@ init t[-1,0].x = 9223372036854775807;
 proc inc(p) { later a at p { get v = t[0].x; set t[0].x = v + 1; out v + 1; } }
 ";
 
-// Column 0 of the row 0 of a table at a place.
+// The arguments of a call of the first procedure, and its reply.
+type Call = (&'static [i64], &'static [i64]);
+
+// Calls in order from the start of a workload, behind which these columns 0 of rows 0 are not 0, by table and place.
+type Case = (&'static [u8], &'static [Call], &'static [(u8, i64, i64)]);
+
+const CASES: [Case; 3] = [
+    (
+        TRANSFER,
+        &[(&[0, 1, 10], &[100, 50]), (&[1, 0, 5], &[60, 90])],
+        &[(0, 0, 95), (0, 1, 55)],
+    ),
+    (
+        THREE_PIECES,
+        &[(&[0, 1], &[10]), (&[0, 1], &[20])],
+        &[(0, 0, 2), (1, 1, 41)],
+    ),
+    (STEP, &[(&[-1], &[i64::MIN])], &[(0, -1, i64::MIN)]),
+];
+
 fn cell(table: u8, place: i64) -> Cell {
     Cell {
         table,
@@ -48,55 +67,49 @@ fn cell(table: u8, place: i64) -> Cell {
     }
 }
 
-// Runs calls of the first procedure in order: each gives its reply.
 fn replies(
     rt: &impl Abort,
     alloc: Global,
     workload: &Workload,
     rows: &mut Rows,
-    calls: &[(&[i64], &[i64])],
+    (args, wanted): Call,
 ) -> Result<(), Fail> {
-    for (args, wanted) in calls {
-        let mut reply = Nums::new(alloc);
-        assert!(rt; !workload.procedures().is_empty());
-        assert_eq!(rt; workload.procedures()[0].arguments as usize, args.len());
-        run_whole(alloc, workload, rows, 0, args, &mut reply)?;
-        assert_eq!(rt; reply.as_slice(), *wanted);
+    let mut reply = Nums::new(alloc);
+    assert!(rt; !workload.procedures().is_empty());
+    assert_eq!(rt; workload.procedures()[0].arguments as usize, args.len());
+    run_whole(alloc, workload, rows, 0, args, &mut reply)?;
+    assert_eq!(rt; reply.as_slice(), wanted);
+    Ok(())
+}
+
+fn runs(
+    rt: &impl Abort,
+    alloc: Global,
+    workload: &Workload,
+    rows: &mut Rows,
+    (_, calls, cells): Case,
+) -> Result<(), Fail> {
+    for call in calls {
+        replies(rt, alloc, workload, rows, *call)?;
+    }
+    let found = rows.nonzero()?;
+    assert_eq!(rt; found.len(), cells.len());
+    for (at, (table, place, number)) in cells.iter().enumerate() {
+        assert_eq!(rt; found[at], (cell(*table, *place), *number));
     }
     Ok(())
 }
 
-// Runs calls from the start of a workload, after which the cells that are not 0 are these.
-fn check(
-    rt: &impl Abort,
-    alloc: Global,
-    text: &[u8],
-    calls: &[(&[i64], &[i64])],
-    cells: &[(Cell, i64)],
-) -> Result<(), Fail> {
-    let workload = workload_of(alloc, text)?;
-    let mut rows = start_rows(alloc, &workload)?;
-    replies(rt, alloc, &workload, &mut rows, calls)?;
-    assert_eq!(rt; rows.nonzero()?.as_slice(), cells);
+fn starts(rt: &impl Abort, alloc: Global, workload: &Workload, case: Case) -> Result<(), Fail> {
+    let mut rows = start_rows(alloc, workload)?;
+    runs(rt, alloc, workload, &mut rows, case)
+}
+
+#[test]
+fn procedures_run_whole(rt: HostRuntime) -> Result<(), Fail> {
+    for case in CASES {
+        let plan = check(rt.alloc(), case.0)?;
+        starts(&rt, rt.alloc(), plan.workload(), case)?;
+    }
     Ok(())
-}
-
-#[test]
-fn transfers_run_whole(rt: HostRuntime) -> Result<(), Fail> {
-    let calls: [(&[i64], &[i64]); 2] = [(&[0, 1, 10], &[100, 50]), (&[1, 0, 5], &[60, 90])];
-    let cells = [(cell(0, 0), 95), (cell(0, 1), 55)];
-    check(&rt, rt.alloc(), TRANSFER, &calls, &cells)
-}
-
-#[test]
-fn pieces_run_in_program_order(rt: HostRuntime) -> Result<(), Fail> {
-    let calls: [(&[i64], &[i64]); 2] = [(&[0, 1], &[10]), (&[0, 1], &[20])];
-    let cells = [(cell(0, 0), 2), (cell(1, 1), 41)];
-    check(&rt, rt.alloc(), THREE_PIECES, &calls, &cells)
-}
-
-#[test]
-fn sums_wrap(rt: HostRuntime) -> Result<(), Fail> {
-    let calls: [(&[i64], &[i64]); 1] = [(&[-1], &[i64::MIN])];
-    check(&rt, rt.alloc(), STEP, &calls, &[(cell(0, -1), i64::MIN)])
 }

@@ -121,7 +121,7 @@ fn check_run(
     let end = run(rt, alloc, texts, case.requests, outside, spawner)?;
     let name = case.seen.name;
     assert_eq!(rt; end, case.end, "{name}");
-    have_seen(rt, outside, case.seen)?;
+    have_seen(rt, outside, case.seen, b"")?;
     have_children(rt, name, spawner, case.family)
 }
 

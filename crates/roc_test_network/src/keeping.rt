@@ -1,14 +1,15 @@
 //! Servers that keep a journal: a disk of which any call fails, and servers that stop and start again.
 use crate::datagrams::{
-    ADD_OF_FIRST, ADD_OF_SECOND, COMMIT_BEHIND_FIRST, COMMIT_BEHIND_OTHER_SHARD,
+    ADD_OF_FIRST, ADD_OF_SECOND, COMMIT, COMMIT_BEHIND_FIRST, COMMIT_BEHIND_OTHER_SHARD,
     COMMIT_BEHIND_SECOND, FETCH_OF_SECOND, HUNDRED, HUNDRED_AND_ONE, Packet, START, STARTOK,
     STARTOK_BEHIND_FIRST, STOP, STRANGE_START,
 };
-use crate::outside::{Failing, Seen, have_seen, outside_of};
-use crate::serving::serve_first;
+use crate::outside::{
+    Failing, Outside, Seen, disk_of, disk_with, have_seen, outside_of, stopping_disk,
+};
+use crate::serving::{Keeping, serve_first};
 use crate::workloads::{BANK, COUNTER, FIRST_SHARD, SECOND_SHARD, Texts};
-use roc_disk::Disk;
-use roc_disk_memory::{CalmDisk, MemDisk, Tear};
+use roc_disk_memory::{MemDisk, Tear};
 use roc_io::Addr;
 use roc_node_serve::ServeEnd;
 use std::alloc::Global;
@@ -34,28 +35,24 @@ struct Life {
     seen: Seen,
 }
 
+const JOURNAL: Keeping = Keeping {
+    journal: Some("journal"),
+    log: None,
+};
+
 // Serves shard 0 with a journal.
-fn lives<D: Disk>(
+fn lives(
     rt: &impl Abort,
     alloc: Global,
     texts: Texts,
     life: &Life,
-    disk: &mut D,
+    disk: &mut MemDisk,
 ) -> Result<(), Fail> {
     let mut outside = outside_of(alloc, life.arrivals, Failing::Nothing)?;
-    let name = Some("journal");
-    let end = serve_first(
-        rt,
-        alloc,
-        texts,
-        false,
-        &mut outside,
-        life.turns,
-        name,
-        disk,
-    )?;
+    let turns = life.turns;
+    let end = serve_first(rt, alloc, texts, false, &mut outside, turns, JOURNAL, disk)?;
     assert_eq!(rt; end, life.end, "{}", life.seen.name);
-    have_seen(rt, &outside, life.seen)
+    have_seen(rt, &outside, life.seen, b"")
 }
 
 // A start twice, the same under another tag, and a stop: two records.
@@ -147,8 +144,7 @@ fn life_at(call: u64) -> Life {
 
 // The server ends where its disk fails, before anything is sent for the message, and is started again.
 fn fails_at(rt: &impl Abort, alloc: Global, call: u64) -> Result<(), Fail> {
-    let failing: Vec<u64> = vec![in alloc; call; 1]?;
-    let mut disk = MemDisk::new(alloc, failing, u64::MAX, Tear::Nothing);
+    let mut disk = disk_of(alloc, &[call])?;
     lives(rt, alloc, COUNTER, &life_at(call), &mut disk)?;
     lives(rt, alloc, COUNTER, &life_behind(call), &mut disk)
 }
@@ -194,7 +190,7 @@ const COMMITS: Life = Life {
 #[test]
 fn a_server_goes_on_amid_two_transactions(rt: HostRuntime) -> Result<(), Fail> {
     let alloc = rt.alloc();
-    let mut disk = CalmDisk::new(alloc);
+    let mut disk = disk_of(alloc, &[])?;
     lives(&rt, alloc, BANK, &STARTS, &mut disk)?;
     lives(&rt, alloc, BANK, &COMMITS, &mut disk)
 }
@@ -228,7 +224,7 @@ const ASKS_AGAIN: Life = Life {
 #[test]
 fn a_server_begins_again_with_a_tick(rt: HostRuntime) -> Result<(), Fail> {
     let alloc = rt.alloc();
-    let mut disk = CalmDisk::new(alloc);
+    let mut disk = disk_of(alloc, &[])?;
     lives(&rt, alloc, BANK, &ASKS, &mut disk)?;
     lives(&rt, alloc, BANK, &ASKS_AGAIN, &mut disk)
 }
@@ -249,7 +245,51 @@ const REFUSED: Life = Life {
 #[test]
 fn a_journal_of_another_workload_is_refused(rt: HostRuntime) -> Result<(), Fail> {
     let alloc = rt.alloc();
-    let mut disk = CalmDisk::new(alloc);
+    let mut disk = disk_of(alloc, &[])?;
     lives(&rt, alloc, BANK, &STARTS, &mut disk)?;
     lives(&rt, alloc, COUNTER, &REFUSED, &mut disk)
+}
+
+// How many datagrams a server with a journal sends for those that come.
+fn sent_with(
+    rt: &impl Abort,
+    alloc: Global,
+    outside: &mut Outside,
+    disk: &mut MemDisk,
+) -> Result<usize, Fail> {
+    serve_first(rt, alloc, COUNTER, false, outside, 1, JOURNAL, disk)?;
+    Ok(outside.link.sent().ok_or("told")?.len())
+}
+
+fn sent_for(
+    rt: &impl Abort,
+    alloc: Global,
+    arrivals: &[Packet],
+    disk: &mut MemDisk,
+) -> Result<usize, Fail> {
+    let mut outside = outside_of(alloc, arrivals, Failing::Nothing)?;
+    sent_with(rt, alloc, &mut outside, disk)
+}
+
+// A server whose disk stops as it takes a start, and another one on what that leaves: where the first one has answered, the second one
+// has the start, and its commit is answered.
+fn stops_at(rt: &impl Abort, alloc: Global, call: u64, tear: Tear) -> Result<(), Fail> {
+    let mut disk = stopping_disk(alloc, call, tear);
+    let answered = sent_for(rt, alloc, &[(CALLER, START)], &mut disk)?;
+    let mut left = disk_with(rt, alloc, disk.image());
+    let again = sent_for(rt, alloc, &[(CALLER, COMMIT)], &mut left)?;
+    assert!(rt; again == 1 || answered == 0);
+    // It stopped while the journal was made, or as it took the start, or not at all.
+    assert!(rt; answered == usize::from(call > CALLS_OF_OPEN + CALLS_OF_RECORD));
+    Ok(())
+}
+
+#[test]
+fn what_was_answered_outlasts_a_stop(rt: HostRuntime) -> Result<(), Fail> {
+    for call in 1..CALLS_OF_OPEN + CALLS_OF_RECORD + 2 {
+        for tear in [Tear::Nothing, Tear::Half, Tear::Whole, Tear::Other(1)] {
+            stops_at(&rt, rt.alloc(), call, tear)?;
+        }
+    }
+    Ok(())
 }

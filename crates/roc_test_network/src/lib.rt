@@ -10,6 +10,8 @@ mod keeping;
 #[cfg(test)]
 mod local;
 #[cfg(test)]
+mod logging;
+#[cfg(test)]
 mod outside;
 #[cfg(test)]
 mod serving;

@@ -1,5 +1,8 @@
-//! Links and sinks of which one call may fail, and what they are to have seen.
+//! Links, sinks, books and disks of which one call may fail, and what they are to have seen.
 use crate::datagrams::{Packet, are_sent, arrivals_of};
+use roc_book_memory::MemBook;
+use roc_disk::{Disk, DiskDone};
+use roc_disk_memory::{MemDisk, Tear};
 use roc_io::Addr;
 use roc_io_memory::{MemLink, MemSink};
 use std::alloc::{AllocError, Global};
@@ -14,6 +17,8 @@ pub(crate) enum Failing {
     Call(u64),
     Send(u64),
     Write(u64),
+    /// The open of a log or a write to it.
+    Log(u64),
 }
 
 /// What a node is to bind, send and write. The name is that of the case.
@@ -32,7 +37,7 @@ fn link_of(alloc: Global, arrivals: &[Packet], failing: Failing) -> Result<MemLi
     match failing {
         Failing::Call(number) => calls.push(number)?,
         Failing::Send(number) => sends.push(number)?,
-        Failing::Nothing | Failing::Write(_) => {}
+        Failing::Nothing | Failing::Write(_) | Failing::Log(_) => {}
     }
     Ok(MemLink::new(alloc, arrivals, calls, sends))
 }
@@ -45,11 +50,39 @@ fn sink_of(alloc: Global, failing: Failing) -> Result<MemSink, AllocError> {
     Ok(MemSink::new(alloc, writes))
 }
 
-/// The link and the sink of a node.
+fn book_of(alloc: Global, failing: Failing) -> Result<MemBook, AllocError> {
+    let mut calls = Vec::new(alloc);
+    if let Failing::Log(number) = failing {
+        calls.push(number)?;
+    }
+    Ok(MemBook::new(alloc, calls))
+}
+
+/// A disk that holds nothing, of which these calls fail.
+pub(crate) fn disk_of(alloc: Global, failing: &[u64]) -> Result<MemDisk, AllocError> {
+    Ok(MemDisk::new(alloc, failing.to_vec(alloc)?, u64::MAX, Tear::Nothing))
+}
+
+/// A disk that holds nothing and stops at this call, torn so.
+pub(crate) fn stopping_disk(alloc: Global, call: u64, tear: Tear) -> MemDisk {
+    MemDisk::new(alloc, Vec::new(alloc), call, tear)
+}
+
+/// A disk on which the journal's name holds these bytes.
+pub(crate) fn disk_with(rt: &impl Abort, alloc: Global, journal: &[u8]) -> MemDisk {
+    let mut disk = MemDisk::new(alloc, Vec::new(alloc), u64::MAX, Tear::Nothing);
+    assert_eq!(rt; disk.open("journal"), DiskDone::Ok);
+    assert_eq!(rt; disk.write_at(0, journal), DiskDone::Ok);
+    assert_eq!(rt; disk.sync(), DiskDone::Ok);
+    disk
+}
+
+/// The link, the sink and the book of a node.
 #[derive(Drop)]
 pub(crate) struct Outside {
     pub link: MemLink,
     pub out: MemSink,
+    pub book: MemBook,
 }
 
 pub(crate) fn outside_of(
@@ -60,15 +93,22 @@ pub(crate) fn outside_of(
     Ok(Outside {
         link: link_of(alloc, arrivals, failing)?,
         out: sink_of(alloc, failing)?,
+        book: book_of(alloc, failing)?,
     })
 }
 
-/// Asserts that a link and a sink have seen exactly this.
-pub(crate) fn have_seen(rt: &impl Abort, outside: &Outside, seen: Seen) -> Result<(), Fail> {
+/// Asserts that a link and a sink have seen exactly this, and what a log has taken.
+pub(crate) fn have_seen(
+    rt: &impl Abort,
+    outside: &Outside,
+    seen: Seen,
+    log: &[u8],
+) -> Result<(), Fail> {
     let (link, out) = (&outside.link, &outside.out);
     let name = seen.name;
     assert_eq!(rt; link.bound().ok_or("told")?, seen.bound, "{name}");
     are_sent(rt, name, link.sent().ok_or("told")?, seen.sent);
     assert_eq!(rt; out.bytes().ok_or("told")?, seen.lines, "{name}");
+    assert_eq!(rt; outside.book.bytes().ok_or("told")?, log, "{name}");
     Ok(())
 }

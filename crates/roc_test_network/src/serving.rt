@@ -5,11 +5,10 @@ use crate::datagrams::{
     START_OF_PROCEDURE_1, START_WITHOUT_ARGUMENTS, STARTOK, STARTOK_BEHIND_FIRST, STOP,
     STRANGE_START, TAG,
 };
-use crate::outside::{Failing, Outside, Seen, have_seen, outside_of};
+use crate::outside::{Failing, Outside, Seen, disk_of, have_seen, outside_of};
 use crate::workloads::{BANK, COUNTER, FIRST_SHARD, Texts};
 use roc_base::Shard;
-use roc_disk::Disk;
-use roc_disk_memory::CalmDisk;
+use roc_disk_memory::MemDisk;
 use roc_io::Addr;
 use roc_node_serve::{ServeEnd, serve};
 use std::alloc::Global;
@@ -36,23 +35,29 @@ const OTHER_CALLER: Addr = Addr {
     port: 9001,
 };
 
-/// Serves shard 0, with the journal of a name or without one.
-pub(crate) fn serve_first<D: Disk>(
+/// What a server keeps besides: a journal or a log, of these names.
+#[derive(Clone, Copy)]
+pub(crate) struct Keeping {
+    pub journal: Option<&'static str>,
+    pub log: Option<&'static str>,
+}
+
+/// Serves shard 0.
+pub(crate) fn serve_first(
     rt: &impl Abort,
     alloc: Global,
     texts: Texts,
     counts: bool,
     outside: &mut Outside,
     turns: u32,
-    journal: Option<&str>,
-    disk: &mut D,
+    keeping: Keeping,
+    disk: &mut MemDisk,
 ) -> Result<ServeEnd, Fail> {
     let plan = texts.plan(alloc)?;
     let cluster = texts.cluster_of(alloc, &plan)?;
     let shards = usize::from(plan.workload().shards());
     assert_eq!(rt; cluster.addrs().len(), shards);
     assert!(rt; shards > 0);
-    let Outside { link, out } = outside;
     Ok(serve(
         alloc,
         &plan,
@@ -60,13 +65,20 @@ pub(crate) fn serve_first<D: Disk>(
         Shard(0),
         &cluster,
         counts,
-        link,
+        &mut outside.link,
         turns,
-        out,
-        journal,
+        &mut outside.out,
+        keeping.journal,
         disk,
+        keeping.log,
+        &mut outside.book,
     ))
 }
+
+const NOTHING_KEPT: Keeping = Keeping {
+    journal: None,
+    log: None,
+};
 
 fn check_run(
     rt: &impl Abort,
@@ -76,14 +88,22 @@ fn check_run(
     case: &Case,
     outside: &mut Outside,
 ) -> Result<(), Fail> {
-    let mut disk = CalmDisk::new(alloc);
+    let mut disk = disk_of(alloc, &[])?;
+    let turns = case.turns;
     let end = serve_first(
-        rt, alloc, texts, counts, outside, case.turns, None, &mut disk,
+        rt,
+        alloc,
+        texts,
+        counts,
+        outside,
+        turns,
+        NOTHING_KEPT,
+        &mut disk,
     )?;
-    assert!(rt; disk.bytes().is_empty());
+    assert!(rt; disk.seen().is_empty());
     let name = case.seen.name;
     assert_eq!(rt; end, case.end, "{name}");
-    have_seen(rt, outside, case.seen)
+    have_seen(rt, outside, case.seen, b"")
 }
 
 fn check(

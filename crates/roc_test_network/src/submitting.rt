@@ -19,21 +19,24 @@ struct Case {
     seen: Seen,
 }
 
-// Submits requests for the counter.
-fn submit(
+/// Submits requests for the counter, with the log of a name or without one.
+pub(crate) fn submit(
     rt: &impl Abort,
     alloc: Global,
     requests: &[u8],
     outside: &mut Outside,
     turns: u32,
+    log: Option<&str>,
 ) -> Result<SubmitEnd, Fail> {
     let plan = COUNTER.plan(alloc)?;
     let cluster = COUNTER.cluster_of(alloc, &plan)?;
     let shards = usize::from(plan.workload().shards());
     assert_eq!(rt; cluster.addrs().len(), shards);
     let requests = parse_requests(alloc, requests)?;
-    let Outside { link, out } = outside;
-    Ok(submit_all(alloc, &plan, TAG, 0, &cluster, &requests, link, turns, out))
+    let Outside { link, out, book } = outside;
+    Ok(submit_all(
+        alloc, &plan, TAG, 0, &cluster, &requests, link, turns, out, log, book,
+    ))
 }
 
 fn check_run(
@@ -42,10 +45,10 @@ fn check_run(
     case: &Case,
     outside: &mut Outside,
 ) -> Result<(), Fail> {
-    let end = submit(rt, alloc, case.requests, outside, case.turns)?;
+    let end = submit(rt, alloc, case.requests, outside, case.turns, None)?;
     let name = case.seen.name;
     assert_eq!(rt; end, case.end, "{name}");
-    have_seen(rt, outside, case.seen)
+    have_seen(rt, outside, case.seen, b"")
 }
 
 fn check(rt: &impl Abort, alloc: Global, cases: &[Case]) -> Result<(), Fail> {

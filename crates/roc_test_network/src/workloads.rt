@@ -1,13 +1,9 @@
 //! Workloads of the tests, and clusters that run them.
 
+use roc_check::check;
 use roc_cluster::{Cluster, parse_cluster};
-use roc_conflict::promote;
 use roc_io::Addr;
-use roc_lang_parse::parse;
-use roc_lang_resolve::resolve;
-use roc_merge::merge;
 use roc_plan::Plan;
-use roc_plan_make::make_plan;
 use std::alloc::Global;
 use std::test::Fail;
 
@@ -76,11 +72,7 @@ pub(crate) const ANY: Addr = Addr {
 impl Texts {
     /// The plan of the workload.
     pub(crate) fn plan(self, alloc: Global) -> Result<Plan, Fail> {
-        let source = parse(alloc, self.workload)?;
-        let workload = resolve(alloc, source)?;
-        let classes = promote(alloc, &workload)?;
-        let groups = merge(alloc, &workload, &classes)?;
-        Ok(make_plan(alloc, workload, classes, groups)?)
+        Ok(check(alloc, self.workload)?)
     }
 
     /// The cluster, of so many shards as the plan has.

@@ -1,5 +1,0 @@
-use Rattle.roc_server.specs.Ahead.{ServingFits}
-use Rattle.roc_test_cores.proofs.servers.handles_all.Given as goal
-
-abbrev pub invariant-loop-sent : goal.invariant-loop-sent
-invariant-loop-sent g l = ServingFits l.plan l.server
