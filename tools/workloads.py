@@ -17,9 +17,14 @@ ACCESS = re.compile(r"    (?:get (\w+) = |set )(\w+)\[(.*?)\]\.(\w+)(?: = (.*))?
 WORD = re.compile(r"[A-Za-z]\w*")
 
 
+def program_path() -> str:
+    """The program to ask, which is proved and built first where it was not."""
+    return os.environ.get("ROCOCO") or str(ROOT / "rococo")
+
+
 def program(*words: str) -> subprocess.CompletedProcess[str]:
-    """What the program answers, which is proved and built first where it was not."""
-    return subprocess.run([os.environ.get("ROCOCO") or str(ROOT / "rococo"), *words], stdout=subprocess.PIPE, stderr=subprocess.PIPE, encoding="utf-8", errors="replace", check=False)
+    """What the program answers."""
+    return subprocess.run([program_path(), *words], stdout=subprocess.PIPE, stderr=subprocess.PIPE, encoding="utf-8", errors="replace", check=False)
 
 
 def check_text(text: str) -> subprocess.CompletedProcess[str]:
