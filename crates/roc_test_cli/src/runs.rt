@@ -26,10 +26,10 @@ fn are_awaited(rt: &impl Abort, children: &MemSpawner, wanted: &[u64]) -> Result
 }
 
 fn have_seen(rt: &impl Abort, streams: &Streams, nodes: &Nodes, case: &Case) -> Result<(), Fail> {
-    let words = case.words[0];
-    assert_eq!(rt; streams.out.bytes(), Some(case.out), "{words}");
-    assert_eq!(rt; streams.err.bytes(), Some(case.err), "{words}");
-    assert_eq!(rt; nodes.book.bytes(), Some(case.log), "{words}");
+    let status = case.status;
+    assert_eq!(rt; streams.out.bytes(), Some(case.out), "of {status}");
+    assert_eq!(rt; streams.err.bytes(), Some(case.err), "of {status}");
+    assert_eq!(rt; nodes.book.bytes(), Some(case.log), "of {status}");
     are_sent(rt, nodes.link.sent().ok_or("told")?, case.sent);
     are_awaited(rt, &nodes.children, case.awaited)
 }
