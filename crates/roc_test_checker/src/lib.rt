@@ -4,6 +4,8 @@
 #[cfg(test)]
 mod cycles;
 #[cfg(test)]
+mod growth;
+#[cfg(test)]
 mod merging;
 #[cfg(test)]
 mod plans;

@@ -22,12 +22,17 @@ proc f(p, q) {
 }
 ";
 
-fn workload(alloc: Global) -> Result<Workload, Fail> {
-    Ok(resolve(alloc, parse(alloc, TWO_GROUPS)?)?)
+fn workload(alloc: Global, text: &[u8]) -> Result<Workload, Fail> {
+    Ok(resolve(alloc, parse(alloc, text)?)?)
 }
 
 fn plan(alloc: Global) -> Result<Plan, Fail> {
-    let workload = workload(alloc)?;
+    plan_of(alloc, TWO_GROUPS)
+}
+
+/// The plan of a text that has one.
+pub fn plan_of(alloc: Global, text: &[u8]) -> Result<Plan, Fail> {
+    let workload = workload(alloc, text)?;
     let classes = promote(alloc, &workload)?;
     let groups = merge(alloc, &workload, &classes)?;
     Ok(make_plan(alloc, workload, classes, groups)?)
@@ -74,7 +79,7 @@ fn a_place_follows_from_inputs(rt: HostRuntime) -> Result<(), Fail> {
 #[test]
 fn contended_pieces_apart_are_unfit(rt: HostRuntime) -> Result<(), Fail> {
     let alloc = rt.alloc();
-    let workload = workload(alloc)?;
+    let workload = workload(alloc, TWO_GROUPS)?;
     let classes = promote(alloc, &workload)?;
     let first = vec![in alloc; 0u16]?;
     let second = vec![in alloc; 1u16]?;
