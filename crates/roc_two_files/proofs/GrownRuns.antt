@@ -16,7 +16,7 @@ use Rattle.roc_audit.specs.Witness.{submitted_call, submitted_calls, reply_in, I
 use Rattle.roc_audit.proofs.Histories.{call_of-from, call_of-id}
 use Rattle.std.specs.List.{cons_option}
 use Rattle.std.proofs.Common.{Option, None}
-use Rattle.roc_two_files.specs.Grown.{IsGrownFrom}
+use Rattle.roc_epoch.specs.Grown.{IsGrownFrom}
 
 -- what is called was submitted
 pub calls_submitted : (history : List Entry) (order : List TxnId) (c : Call) → Has c (submitted_calls history order) → Has (Submitted c.id c.procedure c.arguments) history

@@ -25,7 +25,7 @@ use Rattle.roc_views.proofs.Steps.{tells_before}
 use Rattle.roc_views.proofs.TimeSteps.{adds_in_time}
 use Rattle.roc_views.proofs.WovenOrder.{is_view, tells_them}
 use Rattle.roc_audit.proofs.Histories.{submitted_front}
-use Rattle.roc_two_files.specs.Grown.{IsGrownFrom}
+use Rattle.roc_epoch.specs.Grown.{IsGrownFrom}
 use Rattle.roc_two_files.specs.Left.{left_behind}
 use Rattle.roc_two_files.specs.Orders.{witness_of_both}
 use Rattle.roc_two_files.proofs.Composed.{composed}

@@ -12,7 +12,7 @@ ghost use Rattle.roc_views.specs.World.{World, Beginning, first_beginning};
 ghost use Rattle.roc_views.specs.Beginnings.{IsViewBeginning};
 ghost use Rattle.roc_views.specs.Run.{Stepped, IsRun, IsRunFrom};
 ghost use Rattle.roc_two_files.specs.Filed.{IsFiledWitness, is_behind};
-ghost use Rattle.roc_two_files.specs.Grown.{IsGrownFrom};
+ghost use Rattle.roc_epoch.specs.Grown.{IsGrownFrom};
 ghost use Rattle.roc_two_files.specs.Left.{AreDrained, left_behind};
 ghost use Rattle.roc_two_files.specs.Orders.{witness_of_both};
 

@@ -11,7 +11,7 @@ ghost use Rattle.roc_audit.specs.History.{WasSubmitted, WasAnswered};
 ghost use Rattle.roc_audit.specs.Witness.{submitted_calls, IsSerialWitnessFrom};
 ghost use Rattle.roc_audit.specs.Woven.{Look};
 ghost use Rattle.roc_views.specs.Witness.{was_answered, last_looks};
-ghost use Rattle.roc_two_files.specs.Grown.{IsGrownFrom};
+ghost use Rattle.roc_epoch.specs.Grown.{IsGrownFrom};
 ghost use Rattle.roc_two_files.specs.Orders.{later_by, witness_in};
 
 /// Where one order explains a history, and another one explains another history from what the first one leaves, and no id is submitted in both, the two
