@@ -19,6 +19,10 @@ HEADER = 14
 MOST_ARGUMENTS = 8
 
 
+class Unexplained(Exception):
+    """What cannot be explained."""
+
+
 class Cell(NamedTuple):
     table: str
     place: int
@@ -112,7 +116,9 @@ class Log:
 
     @staticmethod
     def read(file: str) -> Log:
-        lines = pathlib.Path(file).read_text(encoding="ascii").split("\n")
+        lines = pathlib.Path(file).read_bytes().decode("ascii", "replace").split("\n")
+        if not lines[0].startswith("node "):
+            raise Unexplained(f"{file} is not what was judged: it can be read only once, or was changed meanwhile")
         return Log(file, lines[0].split(" ")[1], lines[:-1] if lines[-1] == "" else lines)
 
     def numbered(self, *words: str) -> Iterator[tuple[int, str]]:
@@ -149,11 +155,11 @@ class Store:
         self.by_number: dict[int, Procedure] = {it.number: it for it in self.workload.procedures.values()}
         self.statements = statements_of(program("print", path).stdout)
 
-    def accesses(self, start: Message) -> dict[Cell, bool]:
-        """The cells of a started group, and whether it writes each."""
+    def accesses(self, start: Message, bound: tuple[int, ...]) -> dict[Cell, bool]:
+        """The cells of a started group, and whether it writes each. A key may be a value that an earlier piece of the group has bound, as its startok says."""
         procedure = self.by_number[start.proc]
         group = procedure.groups[start.group]
-        values = {**dict(zip(procedure.arguments, start.args)), **dict(zip(group.inputs, start.inputs))}
+        values = {**dict(zip(procedure.arguments, start.args)), **dict(zip(group.inputs, start.inputs)), **dict(zip(group.binds, bound))}
         found: dict[Cell, bool] = {}
         for piece in group.pieces:
             for writes, table, ids, column in self.statements[procedure.name, piece.name]:
@@ -204,7 +210,7 @@ def served(store: Store, log: Log) -> Served:
             continue
         sent = message_of(digits)
         if sent.kind == "startok" and came and came.kind == "start" and (sent.id, sent.group) not in found.started:
-            begin(store, found, came, at)
+            begin(store, found, came, sent, at)
         elif sent.kind == "commitok" and sent.id not in found.decided:
             found.decided[sent.id] = number
             if waited := found.waiting.pop(sent.id, None):
@@ -212,9 +218,9 @@ def served(store: Store, log: Log) -> Served:
     return found
 
 
-def begin(store: Store, found: Served, start: Message, at: int) -> None:
+def begin(store: Store, found: Served, start: Message, ok: Message, at: int) -> None:
     found.started[start.id, start.group] = at
-    accesses = store.accesses(start)
+    accesses = store.accesses(start, ok.bound)
     if store.is_immediate(start):
         found.ran.append(Ran(start.id, accesses, at))
         return
