@@ -1,2 +1,3 @@
 mod Fronts
 mod Decided
+pub mod Files

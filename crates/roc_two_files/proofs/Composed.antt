@@ -63,7 +63,7 @@ module _ (program : Workload) (s : Store) (h1 h2 : List Entry) (o1 o2 : List Txn
   abbrev left : Store
   left = serial_store program s (submitted_calls h1 o1)
 
-  calls : submitted_calls (h1 ++ h2) (o1 ++ o2) ≡ submitted_calls h1 o1 ++ submitted_calls h2 o2
+  pub calls : submitted_calls (h1 ++ h2) (o1 ++ o2) ≡ submitted_calls h1 o1 ++ submitted_calls h2 o2
   calls =
       let one = calls_front h1 h2 o1 (λ t i. first.submitted t (listed o1 t i)) in
       let two = calls_behind h1 h2 o2 (λ t i h. apart t h (second.submitted t (listed o2 t i))) in

@@ -13,26 +13,12 @@ use Rattle.roc_protocol.specs.World.{sent_by}
 use Rattle.roc_views.specs.World.{World, sends, mark_delivered}
 use Rattle.roc_views.proofs.Ranks.{rank_there, from_rank}
 use Rattle.roc_views.proofs.Sent.{filter_append, filter_all, filter_none}
-use Rattle.roc_two_files.specs.Sealed.{File, First, Second, Neither, is_between, own_file, is_file, Sealed, is_of, of_file, sealed_by, place_in_file, numbers_behind, IsNetworkOf}
+use Rattle.roc_epoch.specs.declared.file.File.{File}
+use Rattle.roc_epoch.specs.declared.file.File.TheVariants.{Neither}
+use Rattle.roc_epoch.specs.Files.{is_between, own_file, is_file}
+use Rattle.roc_epoch.proofs.Files.{same_file, other_file}
+use Rattle.roc_two_files.specs.Sealed.{Sealed, is_of, of_file, sealed_by, place_in_file, numbers_behind, IsNetworkOf}
 use Rattle.roc_two_files.proofs.Numbers.{numbered_more, numbered_less, numbered_still}
-
--- ---- files
-
-pub same_file : (f : File) → is_file f f ≡ true
-same_file First = refl
-same_file Second = refl
-same_file Neither = refl
-
-pub other_file : (f g : File) → f ≢ g → is_file f g ≡ false
-other_file First First n = absurd (n refl)
-other_file First Second n = refl
-other_file First Neither n = refl
-other_file Second First n = refl
-other_file Second Second n = absurd (n refl)
-other_file Second Neither n = refl
-other_file Neither First n = refl
-other_file Neither Second n = refl
-other_file Neither Neither n = absurd (n refl)
 
 -- ---- what a node sends
 

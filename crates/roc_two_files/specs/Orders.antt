@@ -1,18 +1,13 @@
 -- The order that is shown of two runs, one behind the other
 use Rattle.std.specs.Prelude.{ℕ, ◌+◌, List, ◌++◌, length, map}
 use Rattle.roc_base.specs.declared.id.TxnId.{TxnId}
-use Rattle.roc_audit.specs.declared.entry.Entry.{Entry}
-use Rattle.roc_audit.specs.Woven.{Look, woven}
-use Rattle.roc_views.specs.Witness.{was_answered, last_looks}
+use Rattle.roc_audit.specs.Woven.{Look}
+use Rattle.roc_views.specs.Witness.{witness_in}
 use Rattle.roc_views.specs.World.{World}
 
 -- a look behind so many more
 abbrev pub later_by : ℕ → Look → Look
 later_by n l = record { id = l.id; behind = n + l.behind }
-
--- the order with each answered view put in where it looked last
-abbrev pub witness_in : List Entry → List TxnId → List Look → List TxnId
-witness_in history order looks = woven 0 order (last_looks (was_answered history) looks)
 
 -- that of two worlds: the looks of the second are behind the whole order of the first
 abbrev pub witness_of_both : World → World → List TxnId

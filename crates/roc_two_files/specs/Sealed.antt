@@ -1,42 +1,15 @@
 -- A network of two files: each message with the file of its sender, and what of it is of one file
-use Rattle.std.specs.Prelude.{◌≡◌, ◌↔◌, ◌+◌, ℕ, suc, Bool, true, false, List, Some, length, map, filter, slice_get, if◌then◌else◌}
+use Rattle.std.specs.Prelude.{◌≡◌, ◌↔◌, ◌+◌, ℕ, suc, Bool, true, List, Some, length, map, filter, slice_get}
 use Rattle.std.specs.List.{range_with_len}
 use Rattle.roc_sequence.specs.Lists.{Has}
 use Rattle.roc_base.specs.declared.node.Node.{Node}
-use Rattle.roc_msg.specs.declared.msg.Msg.{Msg}
-use Rattle.roc_msg.specs.declared.msg.Msg.TheVariants.{Drained, Switched}
 use Rattle.roc_msg.specs.declared.msg.Envelope.{Envelope}
 use Rattle.roc_msg.specs.declared.outbox.Outgoing.{Outgoing}
+use Rattle.roc_epoch.specs.declared.file.File.{File}
+use Rattle.roc_epoch.specs.Files.{is_file, file_of}
 use Rattle.roc_protocol.specs.World.{sent_by}
 use Rattle.roc_views.specs.Rank.{rank}
 use Rattle.roc_views.specs.World.{World}
-
-pub data File : Type 0 where
-  First Second Neither : File
-
--- a drained and a switched are of neither file
-abbrev pub is_between : Msg → Bool
-is_between (Drained upto) = true
-is_between (Switched upto shard) = true
-is_between msg = false
-
-abbrev pub own_file : (switched : Bool) → File
-own_file switched = if switched then Second else First
-
--- a message's file is that of its sender, as it was sent
-abbrev pub file_of : (switched : Bool) → Msg → File
-file_of switched msg = if is_between msg then Neither else own_file switched
-
-abbrev pub is_file : File → File → Bool
-is_file First First = true
-is_file First Second = false
-is_file First Neither = false
-is_file Second First = false
-is_file Second Second = true
-is_file Second Neither = false
-is_file Neither First = false
-is_file Neither Second = false
-is_file Neither Neither = true
 
 pub record Sealed : Type 0 where
   pub file : File

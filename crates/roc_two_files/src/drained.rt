@@ -1,5 +1,5 @@
 //! Worlds in which nothing is unanswered, and what each submission and each answer of a run is of, whatever it began with.
-ghost use Rattle.std.specs.Prelude.{◌≡◌, ◌≤◌, ◌<◌, ◌-◌, ◌++◌, ℕ, ℤ, false, List, [], Option, Some, length, map, slice_get};
+ghost use Rattle.std.specs.Prelude.{◌≡◌, ◌<◌, ◌-◌, ◌++◌, ℕ, ℤ, false, List, [], Option, Some, length, map, slice_get};
 ghost use Rattle.roc_sequence.specs.Lists.{Has};
 ghost use Rattle.roc_base.specs.declared.id.TxnId.{TxnId};
 ghost use Rattle.roc_base.specs.declared.node.Node.{Node};
@@ -7,15 +7,12 @@ ghost use Rattle.roc_base.specs.declared.node.Node.TheVariants as node;
 ghost use Rattle.roc_plan.specs.Groups.{Plan, procedure_of};
 ghost use Rattle.roc_plan.specs.Accepted.{IsAccepted};
 ghost use Rattle.roc_msg.specs.declared.msg.Envelope.{Envelope};
-ghost use Rattle.roc_msg.specs.declared.msg.Msg.{Msg};
 ghost use Rattle.roc_msg.specs.declared.outbox.Outgoing.{Outgoing};
 ghost use Rattle.roc_msg.specs.declared.reason.Reason.{Reason};
 ghost use Rattle.roc_step.specs.Renewed.{renewed, renewed_viewing};
 ghost use Rattle.roc_coord.specs.State.{CoordState};
 ghost use Rattle.roc_coord.specs.Renewed.{renewed_coord};
-ghost use Rattle.roc_coord.specs.declared.handled.Handled.TheVariants.{Answered};
 ghost use Rattle.roc_coord.specs.Marks.{ended_sends};
-ghost use Rattle.roc_coord.specs.Step.{after_message};
 ghost use Rattle.roc_audit.specs.declared.entry.Entry.TheVariants.{Submitted};
 ghost use Rattle.roc_protocol.specs.World.{sent_by};
 ghost use Rattle.roc_protocol.specs.declared.event.Event.{Event};
@@ -26,7 +23,7 @@ ghost use Rattle.roc_views.specs.Beginnings.{IsViewBeginning};
 ghost use Rattle.roc_views.specs.Happens.{Outcome, undecided, Happens};
 ghost use Rattle.roc_views.specs.Run.{Stepped, Transition, IsRunFrom};
 ghost use Rattle.roc_two_files.specs.Home.{GoesHome};
-ghost use Rattle.roc_two_files.specs.Sealed.{is_between};
+ghost use Rattle.roc_epoch.specs.Files.{is_between};
 ghost use Rattle.roc_two_files.specs.Left.{AreDrained, left_behind};
 
 use roc_group::laws::{
@@ -112,10 +109,4 @@ pub fn drained_coordinators_rest()
     ensures ticks { (plan : Plan) (b : Beginning) (coords : ℕ) (steps : List Stepped) (w : World) → IsRunFrom plan b coords steps w → AreDrained w.coords
         → (n : ℕ) (o : Outcome) → Happens plan w (event.Tick (node.Coord n)) o
         → (s : CoordState) × (slice_get w.coords n ≡ Some s) × (o ≡ undecided seen.Done (at_coord_tick w n (ended_sends plan s))) }
-{}
-
-/// A coordinator's step that answers sends a message to each shard at most.
-pub fn answers_send_few()
-    ensures { (plan : Plan) (s : CoordState) (msg : Msg) (id : TxnId) (reply : List ℤ) → (after_message plan s msg).answer ≡ Answered id reply
-        → length (after_message plan s msg).sends ≤ plan.program.shards }
 {}

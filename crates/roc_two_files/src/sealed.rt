@@ -6,7 +6,10 @@ ghost use Rattle.roc_sequence.specs.Lists.{Has};
 ghost use Rattle.roc_msg.specs.declared.msg.Envelope.{Envelope};
 ghost use Rattle.roc_msg.specs.declared.outbox.Outgoing.{Outgoing};
 ghost use Rattle.roc_views.specs.World.{World, sends, mark_delivered};
-ghost use Rattle.roc_two_files.specs.Sealed.{File, Neither, is_between, own_file, Sealed, is_of, sealed_by, place_in_file, numbers_behind, IsNetworkOf};
+ghost use Rattle.roc_epoch.specs.declared.file.File.{File};
+ghost use Rattle.roc_epoch.specs.declared.file.File.TheVariants.{Neither};
+ghost use Rattle.roc_epoch.specs.Files.{is_between, own_file};
+ghost use Rattle.roc_two_files.specs.Sealed.{Sealed, is_of, sealed_by, place_in_file, numbers_behind, IsNetworkOf};
 
 /// A node sends what its step sends, and behind it what is of neither file: the world of its own file gains what the step sent, and that of the other file stays.
 pub fn sends_are_of_their_file()

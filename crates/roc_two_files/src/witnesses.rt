@@ -10,9 +10,9 @@ ghost use Rattle.roc_audit.specs.declared.entry.Entry.TheVariants.{Submitted};
 ghost use Rattle.roc_audit.specs.History.{WasSubmitted, WasAnswered};
 ghost use Rattle.roc_audit.specs.Witness.{submitted_calls, IsSerialWitnessFrom};
 ghost use Rattle.roc_audit.specs.Woven.{Look};
-ghost use Rattle.roc_views.specs.Witness.{was_answered, last_looks};
+ghost use Rattle.roc_views.specs.Witness.{was_answered, last_looks, witness_in};
 ghost use Rattle.roc_epoch.specs.Grown.{IsGrownFrom};
-ghost use Rattle.roc_two_files.specs.Orders.{later_by, witness_in};
+ghost use Rattle.roc_two_files.specs.Orders.{later_by};
 
 /// Where one order explains a history, and another one explains another history from what the first one leaves, and no id is submitted in both, the two
 /// orders, one behind the other, explain both histories.

@@ -23,9 +23,12 @@ abbrev pub last_looks : (TxnId → Bool) → List Look → List Look
 last_looks passes [] = []
 last_looks passes (l ∷ ls) = if passes l.id && not (looks_again l ls) then l ∷ last_looks passes ls else last_looks passes ls
 
--- that of each answered view
+-- the order with each answered view put in where it looked last
+abbrev pub witness_in : List Entry → List TxnId → List Look → List TxnId
+witness_in history order looks = woven 0 order (last_looks (was_answered history) looks)
+
 abbrev pub shown : World → List Look
 shown w = last_looks (was_answered w.history) w.looks
 
 abbrev pub witness_of : World → List TxnId
-witness_of w = woven 0 w.order (shown w)
+witness_of w = witness_in w.history w.order w.looks
