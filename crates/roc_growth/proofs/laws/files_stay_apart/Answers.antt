@@ -1,0 +1,12 @@
+use Rattle.roc_views.specs.World.{first_beginning}
+use Rattle.roc_epoch.specs.Files.{last_plan}
+use Rattle.roc_growth.proofs.Headline.{in_turn}
+use Rattle.roc_growth.proofs.laws.files_stay_apart.Goals as goal
+
+pub returns : goal.returns
+returns c plan next coords steps w accepted of run =
+    let x = c.both_runs.ensures plan next coords steps w accepted of run in
+    let e = x.epochs in
+    in_turn plan next coords steps w e of x.fits.some_server (c.witness_is_serial.ensures plan (first_beginning plan) coords e.first_steps e.w accepted x.begins e.first)
+    (λ drained. c.epochs_are_serial.ensures.first plan (last_plan plan next) coords e.first_steps e.second_steps e.w e.v accepted x.accepted x.grows e.first drained e.second)
+    (λ drained. c.epochs_stand_apart.ensures.order plan (last_plan plan next) (first_beginning plan) coords e.first_steps e.second_steps e.w e.v accepted x.accepted x.grows x.begins e.first drained e.second)

@@ -1,0 +1,11 @@
+pub mod World
+pub mod Happens
+pub mod Run
+pub mod Fits
+pub mod Without
+pub mod Told
+pub mod Epochs
+pub mod Receivers
+pub mod Quiet
+pub mod Witness
+pub mod Inner
