@@ -1,0 +1,4 @@
+-- The definitions that contracts cite
+pub mod Setting
+pub mod Judgement
+pub mod Posting

@@ -1,0 +1,5 @@
+mod Folds
+mod Served
+mod Servers
+mod Shards
+mod Turning

@@ -1,0 +1,2 @@
+-- What stands here is of private functions alone
+pub mod GrownTurn

@@ -1,0 +1,9 @@
+mod Closing
+mod Counts
+mod Gathered
+mod Keeping
+mod Lasting
+mod Replied
+mod Runs
+mod Turning
+mod Ending

@@ -1,0 +1,3 @@
+pub mod GrownCoordRun
+pub mod GrownEnd
+pub mod Inner
