@@ -2,7 +2,7 @@
 use Rattle.std.proofs.Common.{◌≡◌, ◌⊎◌, inl, inr, ℕ, ◌≤◌, ◌==◌, Bool, IsTrue, true, false, List, [], ◌∷◌, Option, Result, Ok, Err, refl, sym, ap, subst, ◌∙◌, arith}
 use Rattle.roc_io.specs.Cause.{HasCause}
 use Rattle.roc_cli_files.specs.declared.fault.Fault.{Fault}
-use Rattle.roc_cli_files.specs.declared.fault.Fault.TheVariants.{Rejected, Refused, Value, NoShard, Journal, Memory, Unanswered, File, Sink, Link, Child, Disk, Full, Refuted, Book}
+use Rattle.roc_cli_files.specs.declared.fault.Fault.TheVariants.{Rejected, Refused, Value, NoShard, Growth, Same, Journal, Memory, Unanswered, File, Sink, Link, Child, Disk, Full, Refuted, Book}
 use Rattle.roc_cli_files.specs.Says.{Errors}
 use Rattle.roc_cli_words.specs.declared.value.Part.{Part}
 use Rattle.roc_cli_nodes.specs.Call.{RunCall}
@@ -37,6 +37,8 @@ file_counted Memory status err old new (e, says) h = counted_at status 4 6 false
 file_counted (File file) status err old new (e, says) h = counted_at status 6 6 true old new e refl h
 file_counted Sink status err old new (e, says) h = counted_at status 7 6 false old new e refl h
 file_counted Link status err old new (e, says) h = counted_at status 8 6 false old new e refl h
+file_counted (Growth file fault) status err old new (e, says) h = counted_at status 3 6 false old new e refl h
+file_counted (Same file) status err old new (e, says) h = counted_at status 3 6 false old new e refl h
 file_counted (Journal file) status err old new (e, says) h = counted_at status 3 6 false old new e refl h
 file_counted (Disk file) status err old new (e, says) h = counted_at status 10 6 false old new e refl h
 file_counted (Full file) status err old new (e, says) h = counted_at status 11 6 false old new e refl h
@@ -55,6 +57,8 @@ sink_counted Memory status err old new (e, says) h = counted_at status 4 7 false
 sink_counted (File file) status err old new (e, says) h = counted_at status 6 7 false old new e refl h
 sink_counted Sink status err old new (e, says) h = counted_at status 7 7 true old new e refl h
 sink_counted Link status err old new (e, says) h = counted_at status 8 7 false old new e refl h
+sink_counted (Growth file fault) status err old new (e, says) h = counted_at status 3 7 false old new e refl h
+sink_counted (Same file) status err old new (e, says) h = counted_at status 3 7 false old new e refl h
 sink_counted (Journal file) status err old new (e, says) h = counted_at status 3 7 false old new e refl h
 sink_counted (Disk file) status err old new (e, says) h = counted_at status 10 7 false old new e refl h
 sink_counted (Full file) status err old new (e, says) h = counted_at status 11 7 false old new e refl h
@@ -73,6 +77,8 @@ link_counted Memory status err old new (e, says) h = counted_at status 4 8 false
 link_counted (File file) status err old new (e, says) h = counted_at status 6 8 false old new e refl h
 link_counted Sink status err old new (e, says) h = counted_at status 7 8 false old new e refl h
 link_counted Link status err old new (e, says) h = counted_at status 8 8 true old new e refl h
+link_counted (Growth file fault) status err old new (e, says) h = counted_at status 3 8 false old new e refl h
+link_counted (Same file) status err old new (e, says) h = counted_at status 3 8 false old new e refl h
 link_counted (Journal file) status err old new (e, says) h = counted_at status 3 8 false old new e refl h
 link_counted (Disk file) status err old new (e, says) h = counted_at status 10 8 false old new e refl h
 link_counted (Full file) status err old new (e, says) h = counted_at status 11 8 false old new e refl h
@@ -91,6 +97,8 @@ disk_counted Memory status err old new (e, says) h = counted_at status 4 10 fals
 disk_counted (File file) status err old new (e, says) h = counted_at status 6 10 false old new e refl h
 disk_counted Sink status err old new (e, says) h = counted_at status 7 10 false old new e refl h
 disk_counted Link status err old new (e, says) h = counted_at status 8 10 false old new e refl h
+disk_counted (Growth file fault) status err old new (e, says) h = counted_at status 3 10 false old new e refl h
+disk_counted (Same file) status err old new (e, says) h = counted_at status 3 10 false old new e refl h
 disk_counted (Journal file) status err old new (e, says) h = counted_at status 3 10 false old new e refl h
 disk_counted (Disk file) status err old new (e, says) h = counted_at status 10 10 true old new e refl h
 disk_counted (Full file) status err old new (e, says) h = counted_at status 11 10 false old new e refl h
@@ -109,6 +117,8 @@ book_counted Memory status err old new (e, says) h = counted_at status 4 13 fals
 book_counted (File file) status err old new (e, says) h = counted_at status 6 13 false old new e refl h
 book_counted Sink status err old new (e, says) h = counted_at status 7 13 false old new e refl h
 book_counted Link status err old new (e, says) h = counted_at status 8 13 false old new e refl h
+book_counted (Growth file fault) status err old new (e, says) h = counted_at status 3 13 false old new e refl h
+book_counted (Same file) status err old new (e, says) h = counted_at status 3 13 false old new e refl h
 book_counted (Journal file) status err old new (e, says) h = counted_at status 3 13 false old new e refl h
 book_counted (Disk file) status err old new (e, says) h = counted_at status 10 13 false old new e refl h
 book_counted (Full file) status err old new (e, says) h = counted_at status 11 13 false old new e refl h

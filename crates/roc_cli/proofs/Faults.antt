@@ -1,18 +1,26 @@
 -- What each step of a command tells of its end
-use Rattle.std.proofs.Common.{◌≡◌, inl, inr, ℕ, List, Option, Result, Ok, Err, refl, sym, subst, length, ap, ◌≤◌, string_bytes}
+use Rattle.std.proofs.Common.{◌≡◌, inl, inr, ℕ, List, Option, Some, None, IfSome, Result, Ok, Err, refl, sym, subst, ◌≤◌, string_bytes, arith}
 use Rattle.std.proofs.Math.Path.{fun_ext}
 use Rattle.roc_lang.specs.Grammar.{text_limit}
 use Rattle.roc_lang.specs.FaultText.{what_text}
 use Rattle.roc_lang_scope.specs.FaultText.{what_text as scope_text}
 use Rattle.roc_sched.specs.FaultText.{what_text as schedule_text}
 use Rattle.roc_lang_scope.specs.Fault.{kind}
+use Rattle.roc_base.specs.declared.id.TxnId.{TxnId}
 use Rattle.roc_plan.specs.Groups.{Plan}
+use Rattle.roc_plan.specs.Accepted.{IsAccepted}
+use Rattle.roc_epoch.specs.declared.next.Next.{Next}
+use Rattle.roc_epoch.specs.Files.{IsNextOf}
 use Rattle.roc_sched.specs.Schedule.{most_bytes}
+use Rattle.roc_report.specs.Line.{Line}
+use Rattle.roc_report.specs.ReportLine.{HasNames}
 use Rattle.roc_report.specs.Reading.{IsReadInOneWay}
 use Rattle.roc_replay.specs.declared.ended.Summary.{Summary}
+use Rattle.roc_replay.specs.BoundLine.{last_program}
+use Rattle.roc_replay.specs.Readback.{FilesStandApart}
 use Rattle.roc_replay.specs.Ended.{IsReplayed}
 use Rattle.roc_cli_files.specs.declared.fault.Fault.{Fault}
-use Rattle.roc_cli_files.specs.declared.fault.Fault.TheVariants.{TooLong, At, Scope, Rejected, Memory, File, Sink}
+use Rattle.roc_cli_files.specs.declared.fault.Fault.TheVariants.{TooLong, At, Scope, Growth, Rejected, Memory, File, Sink}
 use Rattle.roc_cli_nodes.specs.Call.{RunCall, WholeCall, TakesNothing}
 use Rattle.roc_cli_words.specs.declared.answer.WordsFault.{WordsFault}
 use Rattle.roc_cli_words.specs.declared.answer.WordsFault.TheVariants as words_fault
@@ -21,14 +29,43 @@ use Rattle.roc_cli_words.specs.declared.value.Part.{Part}
 use Rattle.roc_cli_words.specs.Commands.{check, print}
 use Rattle.roc_cli_nodes.specs.Words.{IsReplay, IsPrint, IsCheck, IsGen, NamesProgram, NamesWorkload}
 use Rattle.roc_cli_nodes.proofs.Naming.{as_workload}
-use Rattle.roc_cli_files.specs.Held.{Holds, HoldsPlan}
-use Rattle.roc_cli_files.specs.Says.{long_line, fault_line}
-use Rattle.roc_cli.specs.Done.{IsReplayOf}
-use Rattle.roc_cli.specs.Stopped.{the_workload, the_schedule, with_nothing, with_lines, in_report, in_text, in_check, in_rejection, in_generated}
-use Rattle.roc_cli.specs.Refused.{by_clap, no_value, IsRefused, long_workload, no_text, out_of_scope, long_schedule, bad_schedule}
+use Rattle.roc_cli_files.specs.Held.{HoldsPlan}
+use Rattle.roc_cli_files.specs.NodeNames.{HoldsNext, NextFails}
+use Rattle.roc_cli_files.specs.Says.{long_line, fault_line, growth_line}
+use Rattle.roc_cli.specs.Done.{IsReplayUnder, HoldsFollowing, IsReplayOf, ShowsGrowth, ComesToNext}
+use Rattle.roc_cli.specs.Stopped.{IsInput, the_workload, the_schedule, the_next, with_nothing, with_lines, in_report, in_text, in_check, in_rejection, in_generated}
+use Rattle.roc_cli.specs.Refused.{by_clap, no_value, IsRefusedNext, long_next, no_next_text, next_out_of_scope, no_growth}
+use Rattle.roc_cli.specs.Refused.{IsRefused, long_workload, no_text, out_of_scope, long_schedule, bad_next, bad_schedule}
 use Rattle.roc_cli_files.specs.Input.{HoldsWithin, IsReadFault, IsProgramFault, PlanFails, PrintEnds, CheckEnds}
 use Rattle.roc_cli.specs.Inner.Ends.{Fails, Ends, WholeEnds, ReplayEnds, GenEnds, fault_of_words}
-use Rattle.roc_cli_files.specs.Fault.{Blames, ReadsBut}
+use Rattle.roc_cli.specs.Inner.Texts.{ReportLaws}
+use Rattle.roc_cli_files.specs.Fault.{Blames, ReadsBut, growth_word}
+
+-- ---- what is to come next
+
+module _ (laws : ReportLaws) (content : List ℕ → Option (List ℕ)) (plan : Plan) where
+  -- names tell the parts of the last program apart
+  names_last : (growth : Option (List ℕ × ℕ)) (next : Option Next) → HasNames plan.program → HoldsFollowing content plan growth next → HasNames (last_program plan next)
+  names_last None None names h = names
+  names_last None (Some next) names h = absurd h
+  names_last (Some growth) None names h = absurd h
+  names_last (Some growth) (Some next) names h = laws.names h.held.0.bytes next.plan.program h.held.0.is.text
+
+  growth_shown : (growth : Option (List ℕ × ℕ)) (next : Option Next) → IsAccepted plan → HoldsFollowing content plan growth next → (lines : List Line) (order : List TxnId)
+      → FilesStandApart lines order → IfSome next (λ following. ShowsGrowth plan following lines order)
+  growth_shown None None accepted h lines order apart = tt
+  growth_shown None (Some next) accepted h lines order apart = absurd h
+  growth_shown (Some growth) None accepted h lines order apart = absurd h
+  growth_shown (Some growth) (Some next) accepted h lines order apart =
+      record { first = accepted; second = laws.accepted h.held.0.bytes next.plan h.held.0.is; grown = h.grown; apart = apart }
+
+  -- so the schedule can be played
+  pub may_come : (name : List ℕ) (coords : ℕ) (next : Next) → HoldsNext content name plan.program coords next → (1 ≤ coords) × (coords ≤ 16) → IsNextOf plan (Some next)
+  may_come name coords next h within =
+      let count : next.coords ≡ coords = h.count in
+      let least : 1 ≤ coords = within.0 in
+      let most : coords ≤ 16 = within.1 in
+      (laws.accepted h.held.0.bytes next.plan h.held.0.is, h.grown, omega arith, omega arith)
 
 module _ (call : RunCall) where
   -- where a file's name, a line and what is wrong there are known, so is the line of standard error
@@ -61,44 +98,87 @@ module _ (call : RunCall) where
   -- the workload gave no plan
   pub plan_fails : (workload : List ℕ) (fault : Fault) → NamesProgram call.words workload → Blames call.files.failed_old call.files.failed_new fault
       → PlanFails call.files.content workload call.out.old call.out.new fault → Fails call fault
-  plan_fails workload Rejected names blames h = record { workload = workload; named = names; program = h.0; said = h.1; held = h.2; taken = h.3 }
-  plan_fails workload Sink names blames h = in_rejection workload h.0 h.1 names h.2 h.3
+  plan_fails workload Rejected names blames h = record { workload = workload; named = inl names; program = h.0; said = h.1; held = h.2; taken = h.3 }
+  plan_fails workload Sink names blames h = in_rejection workload h.0 h.1 (inl names) h.2 h.3
   plan_fails workload fault names blames h = program_fails workload fault names h.1 blames h.0
 
   -- the schedule gave no bytes
-  pub schedule_unread : (workload schedule : List ℕ) (plan : Plan) (fault : Fault) → IsReplay call.words workload schedule → HoldsPlan call.files.content workload plan
-      → TakesNothing call → Blames call.files.failed_old call.files.failed_new fault → IsReadFault call.files.content schedule most_bytes fault → Fails call fault
-  schedule_unread workload schedule plan (TooLong file) given planned same blames (e, more) =
-      subst (λ n. IsRefused call (long_line n)) (sym e) (long_schedule workload schedule plan given planned more same)
-  schedule_unread workload schedule plan (File file) given planned same blames e =
-      record { input = the_schedule workload plan (subst (IsReplay call.words workload) (sym e) given) planned; only = blames; untouched = same }
-  schedule_unread workload schedule plan Memory given planned same blames h = with_nothing same
-  schedule_unread workload schedule plan _ given planned same blames h = absurd h
+  pub schedule_unread : (workload schedule : List ℕ) (growth : Option (List ℕ × ℕ)) (plan : Plan) (fault : Fault) → IsReplay call.words workload schedule growth
+      → HoldsPlan call.files.content workload plan → TakesNothing call → Blames call.files.failed_old call.files.failed_new fault
+      → IsReadFault call.files.content schedule most_bytes fault → Fails call fault
+  schedule_unread workload schedule growth plan (TooLong file) given planned same blames (e, more) =
+      subst (λ n. IsRefused call (long_line n)) (sym e) (long_schedule workload schedule growth plan given planned more same)
+  schedule_unread workload schedule growth plan (File file) given planned same blames e =
+      record { input = the_schedule workload growth plan (subst (λ n. IsReplay call.words workload n growth) (sym e) given) planned; only = blames; untouched = same }
+  schedule_unread workload schedule growth plan Memory given planned same blames h = with_nothing same
+  schedule_unread workload schedule growth plan _ given planned same blames h = absurd h
+
+  -- the workload to grow to gave nothing
+  module _ (name : List ℕ) (plan : Plan) (comes : ComesToNext call name plan) where
+    next_unread : (fault : Fault) → TakesNothing call → Blames call.files.failed_old call.files.failed_new fault → IsReadFault call.files.content name text_limit fault → Fails call fault
+    next_unread (TooLong file) same blames (e, more) = bad_next _ (subst (λ n. IsRefusedNext call (long_line n)) (sym e) (long_next name plan comes more)) same
+    next_unread (File file) same blames e = record { input = subst (IsInput call) (sym e) (the_next plan comes); only = blames; untouched = same }
+    next_unread Memory same blames h = with_nothing same
+    next_unread _ same blames h = absurd h
+
+    next_textless : (fault : Fault) → TakesNothing call → Blames call.files.failed_old call.files.failed_new fault → IsProgramFault call.files.content name fault → Fails call fault
+    next_textless (At file line what) same blames (e, (w, held, g)) =
+        line_known file.now name line line what.now (what_text w) e refl g (bad_next _ (no_next_text name plan line w comes held) same)
+    next_textless (Scope file line what) same blames (e, held) =
+        subst (λ n. IsRefused call (fault_line n line (scope_text what))) (sym e) (bad_next _ (next_out_of_scope name plan (record { kind = kind what; line = line }) comes held) same)
+    next_textless fault same blames h = next_unread fault same blames h
+
+    next_planless : (fault : Fault) → Blames call.files.failed_old call.files.failed_new fault → PlanFails call.files.content name call.out.old call.out.new fault → Fails call fault
+    next_planless Rejected blames h = record { workload = name; named = inr (plan, comes); program = h.0; said = h.1; held = h.2; taken = h.3 }
+    next_planless Sink blames h = in_rejection name h.0 h.1 (inr (plan, comes)) h.2 h.3
+    next_planless fault blames h = next_textless fault h.1 blames h.0
+
+    pub next_fails : (fault : Fault) → Blames call.files.failed_old call.files.failed_new fault → NextFails call.files.content name plan.program call.out.old call.out.new fault → Fails call fault
+    next_fails (Growth file fault) blames (e, not, same) =
+        subst (λ n. IsRefused call (growth_line n (growth_word fault))) (sym e) (bad_next _ (no_growth name plan fault comes not) same)
+    next_fails fault blames h = next_planless fault blames h
 
   -- ---- replay
 
-  -- the replay ended; whatever was replayed is read in one way
-  replay_ends : (plan : Plan) (bytes : List ℕ) (result : Result Unit Fault) → (asked : IsReplayOf call plan bytes)
-      → ((summary : Summary) (h : IsReplayed plan bytes summary call.out.old call.out.new) → IsReadInOneWay plan.program h.lines)
-      → ReplayEnds plan bytes asked.schedule call.out.old call.out.new result → Ends call result
-  replay_ends plan bytes (Ok done) asked reads (summary, h) =
-      inl (record { plan = plan; bytes = bytes; asked = asked; lines = h.lines; taken = h.taken; explained = h.explained; read = reads summary h; run = h.run; answers = h.answers })
-  replay_ends plan bytes (Err (At file line what)) asked reads (e, (w, g, h)) =
-      line_known file.now asked.schedule line line what.now (schedule_text w) e refl g (bad_schedule plan bytes asked line w h)
-  replay_ends plan bytes (Err Memory) asked reads h = with_lines plan bytes asked h
-  replay_ends plan bytes (Err Sink) asked reads h = in_report plan bytes asked h
-  replay_ends plan bytes (Err _) asked reads h = absurd h
+  -- the replay ended; whatever was replayed is read in one way, and shows growth
+  replay_ends : (plan : Plan) (next : Option Next) (bytes : List ℕ) (result : Result Unit Fault) → (asked : IsReplayOf call plan next bytes)
+      → ((summary : Summary) (h : IsReplayed plan next bytes summary call.out.old call.out.new) → IsReadInOneWay (last_program plan next) h.lines)
+      → ((lines : List Line) (order : List TxnId) → FilesStandApart lines order → IfSome next (λ following. ShowsGrowth plan following lines order))
+      → ReplayEnds plan next bytes asked.under.schedule call.out.old call.out.new result → Ends call result
+  replay_ends plan next bytes (Ok done) asked reads grows (summary, h) =
+      inl (record {
+        plan = plan;
+        next = next;
+        bytes = bytes;
+        asked = asked;
+        lines = h.lines;
+        taken = h.taken;
+        explained = h.explained;
+        read = reads summary h;
+        run = h.run;
+        filed = h.filed;
+        answers = h.answers;
+        grown = grows h.lines h.explained.order h.apart;
+      })
+  replay_ends plan next bytes (Err (At file line what)) asked reads grows (e, (w, g, h)) =
+      line_known file.now asked.under.schedule line line what.now (schedule_text w) e refl g (bad_schedule plan next bytes asked line w h)
+  replay_ends plan next bytes (Err Memory) asked reads grows h = with_lines plan next bytes asked h
+  replay_ends plan next bytes (Err Sink) asked reads grows h = in_report plan next bytes asked h
+  replay_ends plan next bytes (Err _) asked reads grows h = absurd h
 
-  -- both files were read, and the replay ended
-  pub files_end : (workload schedule : List ℕ) (plan : Plan) (bytes taken : List ℕ) (result : Result Unit Fault)
-      → IsReplay call.words workload schedule → HoldsPlan call.files.content workload plan
-      → HoldsWithin call.files.content schedule most_bytes bytes → taken ≡ bytes
-      → ((summary : Summary) (h : IsReplayed plan taken summary call.out.old call.out.new) → IsReadInOneWay plan.program h.lines)
-      → ReplayEnds plan taken schedule call.out.old call.out.new result → Ends call result
-  files_end workload schedule plan bytes taken result given planned held e reads ends =
-      let is_held : Holds call.files.content schedule taken = subst (Holds call.files.content schedule) (sym e) held.held in
-      let is_few : length taken ≤ most_bytes = subst (λ n. n ≤ most_bytes) (sym (ap length e)) held.few in
-      replay_ends plan taken result (record { workload = workload; schedule = schedule; given = given; of_workload = planned; of_schedule = is_held; size = is_few }) reads ends
+  -- all files were read, and the replay ended
+  module _ (workload schedule : List ℕ) (growth : Option (List ℕ × ℕ)) (given : IsReplay call.words workload schedule growth) (plan : Plan)
+      (planned : HoldsPlan call.files.content workload plan) (bytes : List ℕ) (held : HoldsWithin call.files.content schedule most_bytes bytes) where
+    abbrev pub under : IsReplayUnder call plan bytes
+    under = record { workload = workload; schedule = schedule; growth = growth; given = given; of_workload = planned; of_schedule = held.held; size = held.few }
+
+    pub files_end : (laws : ReportLaws) (next : Option Next) (result : Result Unit Fault) (middle : Option (List ℕ)) → middle ≡ call.out.old
+        → HoldsFollowing call.files.content plan growth next → ReplayEnds plan next bytes schedule middle call.out.new result → Ends call result
+    files_end laws next result middle same following ends =
+        replay_ends plan next bytes result (record { under = under; of_next = following })
+        (λ summary h. laws.read plan next bytes summary call.out.old call.out.new (names_last laws call.files.content plan growth next (laws.names planned.bytes plan.program planned.is.text) following) h)
+        (growth_shown laws call.files.content plan growth next (laws.accepted planned.bytes plan planned.is) following)
+        (subst (λ (o : Option (List ℕ)). ReplayEnds plan next bytes schedule o call.out.new result) same ends)
 
   -- ---- print and check
 
@@ -128,6 +208,12 @@ module _ (call : RunCall) where
   gen_ends seed shards txns part (Err Memory) given same = with_nothing same
   gen_ends seed shards txns part (Err Sink) given (text, generated, front) = in_generated seed shards txns part text given generated front
   gen_ends seed shards txns part (Err _) given h = absurd h
+
+-- the bytes of a file behind a step that left all as it was
+pub within_later : (later content : List ℕ → Option (List ℕ)) (name : List ℕ) (most : ℕ) (bytes taken : List ℕ) → later name ≡ content name → taken ≡ bytes
+    → HoldsWithin content name most bytes → HoldsWithin later name most taken
+within_later later content name most bytes taken e f h =
+    subst (λ b. HoldsWithin later name most b) (sym f) (record { held = subst (λ o. IfSome o (λ held. held ≡ bytes)) (sym e) h.held; few = h.few })
 
 -- the end of what was done behind a first step that left all as it was
 pub behind : (words : List (List ℕ)) (later content : List ℕ → Option (List ℕ)) (between before after : Option (List (List ℕ))) (middle old new : Option (List ℕ)) (result : Result Unit Fault)

@@ -1,17 +1,16 @@
 -- What status 0 says
 use Rattle.std.proofs.Common.{◌≡◌, inl, inr, Ok, refl, arith}
-use Rattle.roc_node_serve.specs.declared.ends.ServeEnd.TheVariants as serve_end
-use Rattle.roc_node_submit.specs.declared.ends.SubmitEnd.TheVariants as submit_end
 use Rattle.roc_node_local.specs.declared.stops.StopEnd.TheVariants as stop_end
 use Rattle.roc_node_local.specs.declared.local.LocalEnd.TheVariants as local_end
 use Rattle.roc_cli_words.specs.Commands.{check, print, replay, serve, submit, stop, local, gen}
 use Rattle.roc_cli_files.specs.Says.{Errors}
 use Rattle.roc_cli_nodes.specs.Call.{WholeCall, ReadsAll}
 use Rattle.roc_cli_nodes.specs.NodeEnds as nodes_end
-use Rattle.roc_cli_nodes.specs.Words.{AreReplayWords, ArePrintWords, AreCheckWords, AreGenWords, AreAuditWords, AreServeWords, AreSubmitWords, AreStopWords, AreLocalWords, AreCommandWords, NamesNodes, node_files}
-use Rattle.roc_cli_nodes.specs.Nodes.{ServeEnded, SubmitEnded, StopEnded, LocalEnded}
+use Rattle.roc_cli_nodes.specs.Words.{AreReplayWords, ArePrintWords, AreCheckWords, AreGenWords, AreAuditWords, AreServeWords, AreSubmitWords, AreStopWords, AreLocalWords, AreCommandWords}
+use Rattle.roc_cli_nodes.specs.Words.{NamesNodes, node_files}
+use Rattle.roc_cli_nodes.specs.Nodes.{StopEnded, LocalEnded}
 use Rattle.roc_cli_nodes.proofs.Naming.{unlike, no_name}
-use Rattle.roc_cli_nodes.proofs.Named.{nodes_named, nodes_words, serve_done, submit_done, stop_done, local_done}
+use Rattle.roc_cli_nodes.proofs.Named.{Served, Submitted, nodes_named, nodes_words, serve_done, submit_done, stop_done, local_done}
 use Rattle.roc_cli.specs.Done.{Replays, Prints, Checks, Generates}
 use Rattle.roc_cli.specs.Audited.{Audits}
 use Rattle.roc_cli.proofs.Commands.{not_audit, audit_words, audit_alone, audited_words}
@@ -23,14 +22,14 @@ use Rattle.roc_cli.specs.Inner.Ends.{Ends, WholeEnds}
 module _ (call : WholeCall) where
   replay_done : WholeEnds call (Ok tt) → AreReplayWords call.run.words → Replays call.run
   replay_done (inl (inl done)) are = done
-  replay_done (inl (inr (inl done))) (workload, schedule, given) = unlike (Replays call.run) call.run.words (print done.workload) (replay workload schedule) done.given given refl
-  replay_done (inl (inr (inr (inl done)))) (workload, schedule, given) = unlike (Replays call.run) call.run.words (check done.workload) (replay workload schedule) done.given given refl
-  replay_done (inl (inr (inr (inr (inl done))))) (workload, schedule, given) = unlike (Replays call.run) call.run.words (gen done.seed done.shards done.txns done.part) (replay workload schedule) done.given given refl
-  replay_done (inl (inr (inr (inr (inr done))))) (workload, schedule, given) = not_audit (Replays call.run) call.run.words (replay workload schedule) given refl (audited_words call.run done)
-  replay_done (inr h) (workload, schedule, given) = absurd (no_name node_files call.run.words (replay workload schedule) given refl _ (nodes_named call nodes_end.Done h).1)
+  replay_done (inl (inr (inl done))) (workload, schedule, growth, given) = unlike (Replays call.run) call.run.words (print done.workload) (replay workload schedule growth) done.given given refl
+  replay_done (inl (inr (inr (inl done)))) (workload, schedule, growth, given) = unlike (Replays call.run) call.run.words (check done.workload) (replay workload schedule growth) done.given given refl
+  replay_done (inl (inr (inr (inr (inl done))))) (workload, schedule, growth, given) = unlike (Replays call.run) call.run.words (gen done.seed done.shards done.txns done.part) (replay workload schedule growth) done.given given refl
+  replay_done (inl (inr (inr (inr (inr done))))) (workload, schedule, growth, given) = not_audit (Replays call.run) call.run.words (replay workload schedule growth) given refl (audited_words call.run done)
+  replay_done (inr h) (workload, schedule, growth, given) = absurd (no_name node_files call.run.words (replay workload schedule growth) given refl _ (nodes_named call nodes_end.Done h).1)
 
   print_done : WholeEnds call (Ok tt) → ArePrintWords call.run.words → Prints call.run
-  print_done (inl (inl done)) (workload, given) = unlike (Prints call.run) call.run.words (replay done.asked.workload done.asked.schedule) (print workload) done.asked.given given refl
+  print_done (inl (inl done)) (workload, given) = unlike (Prints call.run) call.run.words (replay done.asked.under.workload done.asked.under.schedule done.asked.under.growth) (print workload) done.asked.under.given given refl
   print_done (inl (inr (inl done))) are = done
   print_done (inl (inr (inr (inl done)))) (workload, given) = unlike (Prints call.run) call.run.words (check done.workload) (print workload) done.given given refl
   print_done (inl (inr (inr (inr (inl done))))) (workload, given) = unlike (Prints call.run) call.run.words (gen done.seed done.shards done.txns done.part) (print workload) done.given given refl
@@ -38,7 +37,7 @@ module _ (call : WholeCall) where
   print_done (inr h) (workload, given) = absurd (no_name node_files call.run.words (print workload) given refl _ (nodes_named call nodes_end.Done h).1)
 
   check_done : WholeEnds call (Ok tt) → AreCheckWords call.run.words → Checks call.run
-  check_done (inl (inl done)) (workload, given) = unlike (Checks call.run) call.run.words (replay done.asked.workload done.asked.schedule) (check workload) done.asked.given given refl
+  check_done (inl (inl done)) (workload, given) = unlike (Checks call.run) call.run.words (replay done.asked.under.workload done.asked.under.schedule done.asked.under.growth) (check workload) done.asked.under.given given refl
   check_done (inl (inr (inl done))) (workload, given) = unlike (Checks call.run) call.run.words (print done.workload) (check workload) done.given given refl
   check_done (inl (inr (inr (inl done)))) are = done
   check_done (inl (inr (inr (inr (inl done))))) (workload, given) = unlike (Checks call.run) call.run.words (gen done.seed done.shards done.txns done.part) (check workload) done.given given refl
@@ -46,7 +45,7 @@ module _ (call : WholeCall) where
   check_done (inr h) (workload, given) = absurd (no_name node_files call.run.words (check workload) given refl _ (nodes_named call nodes_end.Done h).1)
 
   gen_done : WholeEnds call (Ok tt) → AreGenWords call.run.words → Generates call.run
-  gen_done (inl (inl done)) (seed, shards, txns, part, given) = unlike (Generates call.run) call.run.words (replay done.asked.workload done.asked.schedule) (gen seed shards txns part) done.asked.given given refl
+  gen_done (inl (inl done)) (seed, shards, txns, part, given) = unlike (Generates call.run) call.run.words (replay done.asked.under.workload done.asked.under.schedule done.asked.under.growth) (gen seed shards txns part) done.asked.under.given given refl
   gen_done (inl (inr (inl done))) (seed, shards, txns, part, given) = unlike (Generates call.run) call.run.words (print done.workload) (gen seed shards txns part) done.given given refl
   gen_done (inl (inr (inr (inl done)))) (seed, shards, txns, part, given) = unlike (Generates call.run) call.run.words (check done.workload) (gen seed shards txns part) done.given given refl
   gen_done (inl (inr (inr (inr (inl done))))) are = done
@@ -54,7 +53,7 @@ module _ (call : WholeCall) where
   gen_done (inr h) (seed, shards, txns, part, given) = absurd (no_name node_files call.run.words (gen seed shards txns part) given refl _ (nodes_named call nodes_end.Done h).1)
 
   audit_done : WholeEnds call (Ok tt) → AreAuditWords call.run.words → Audits call.run
-  audit_done (inl (inl done)) are = not_audit (Audits call.run) call.run.words (replay done.asked.workload done.asked.schedule) done.asked.given refl are
+  audit_done (inl (inl done)) are = not_audit (Audits call.run) call.run.words (replay done.asked.under.workload done.asked.under.schedule done.asked.under.growth) done.asked.under.given refl are
   audit_done (inl (inr (inl done))) are = not_audit (Audits call.run) call.run.words (print done.workload) done.given refl are
   audit_done (inl (inr (inr (inl done)))) are = not_audit (Audits call.run) call.run.words (check done.workload) done.given refl are
   audit_done (inl (inr (inr (inr (inl done))))) are = not_audit (Audits call.run) call.run.words (gen done.seed done.shards done.txns done.part) done.given refl are
@@ -63,18 +62,18 @@ module _ (call : WholeCall) where
 
   -- a command without nodes was done, though the words ask for one with them
   not_without : (A : Type 0) → Ends call.run (Ok tt) → NamesNodes call.run.words → A
-  not_without A (inl done) (files, names) = absurd (no_name node_files call.run.words (replay done.asked.workload done.asked.schedule) done.asked.given refl files names)
+  not_without A (inl done) (files, names) = absurd (no_name node_files call.run.words (replay done.asked.under.workload done.asked.under.schedule done.asked.under.growth) done.asked.under.given refl files names)
   not_without A (inr (inl done)) (files, names) = absurd (no_name node_files call.run.words (print done.workload) done.given refl files names)
   not_without A (inr (inr (inl done))) (files, names) = absurd (no_name node_files call.run.words (check done.workload) done.given refl files names)
   not_without A (inr (inr (inr (inl done)))) (files, names) = absurd (no_name node_files call.run.words (gen done.seed done.shards done.txns done.part) done.given refl files names)
   not_without A (inr (inr (inr (inr done)))) named = absurd (audit_alone call.run.words (audited_words call.run done) named)
 
-  served : WholeEnds call (Ok tt) → AreServeWords call.run.words → ServeEnded call.run call.link call.disk call.book serve_end.Done
-  served (inl h) (workload, cluster, shard, turns, counts, journal, log, given) = not_without (ServeEnded call.run call.link call.disk call.book serve_end.Done) h (_, (serve workload cluster shard turns counts journal log, given, refl))
+  served : WholeEnds call (Ok tt) → AreServeWords call.run.words → Served call
+  served (inl h) (workload, cluster, shard, turns, counts, journal, log, growth, given) = not_without (Served call) h (_, (serve workload cluster shard turns counts journal log growth, given, refl))
   served (inr h) are = serve_done call h are
 
-  submitted : WholeEnds call (Ok tt) → AreSubmitWords call.run.words → SubmitEnded call.run call.link call.book submit_end.Done
-  submitted (inl h) (workload, cluster, requests, coord, turns, log, given) = not_without (SubmitEnded call.run call.link call.book submit_end.Done) h (_, (submit workload cluster requests coord turns log, given, refl))
+  submitted : WholeEnds call (Ok tt) → AreSubmitWords call.run.words → Submitted call
+  submitted (inl h) (workload, cluster, requests, coord, turns, log, growth, given) = not_without (Submitted call) h (_, (submit workload cluster requests coord turns log growth, given, refl))
   submitted (inr h) are = submit_done call h are
 
   stopped : WholeEnds call (Ok tt) → AreStopWords call.run.words → StopEnded call.run call.link stop_end.Done
@@ -86,7 +85,7 @@ module _ (call : WholeCall) where
   ran (inr h) are = local_done call h are
 
   done_words : WholeEnds call (Ok tt) → AreCommandWords call.run.words
-  done_words (inl (inl done)) = (replay done.asked.workload done.asked.schedule, done.asked.given)
+  done_words (inl (inl done)) = (replay done.asked.under.workload done.asked.under.schedule done.asked.under.growth, done.asked.under.given)
   done_words (inl (inr (inl done))) = (print done.workload, done.given)
   done_words (inl (inr (inr (inl done)))) = (check done.workload, done.given)
   done_words (inl (inr (inr (inr (inl done))))) = (gen done.seed done.shards done.txns done.part, done.given)

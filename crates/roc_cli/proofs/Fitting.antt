@@ -1,5 +1,5 @@
 -- Why nothing is wrong with a call whose words and files fit
-use Rattle.std.proofs.Common.{◌≡◌, inl, inr, ℕ, ◌<◌, List, [], length, Option, Some, IfSome, Ok, Err, refl, sym, ap, subst, ◌∙◌, arith}
+use Rattle.std.proofs.Common.{◌≡◌, ℕ, ◌<◌, List, [], length, Option, Some, IfSome, Ok, Err, refl, sym, ap, subst, ◌∙◌, arith}
 use Rattle.std.proofs.lemmas.Option.{none-some}
 use Rattle.roc_lang.specs.Syntax.{Tree}
 use Rattle.roc_lang.specs.Scope.{Fault, faults}
@@ -12,21 +12,20 @@ use Rattle.roc_lang_resolve.specs.Resolve.{resolved}
 use Rattle.roc_plan.specs.Groups.{Plan}
 use Rattle.roc_report.specs.Line.{Line}
 use Rattle.roc_check.specs.Checked.{IsTextOf, IsPlanOfText, IsRefusedBy, IsRefusedText}
-use Rattle.roc_sched.specs.Schedule.{most_bytes}
-use Rattle.roc_replay.specs.Ended.{IsTextFault}
 use Rattle.roc_cli_words.specs.declared.value.Part.{Part}
 use Rattle.roc_cli_words.specs.declared.value.ValueName.{ValueName}
 use Rattle.roc_cli_words.specs.Commands.{Command, check, print, replay, gen}
 use Rattle.roc_cli_words.specs.Answer.{AreWordsOf, HaveNoValue}
 use Rattle.roc_cli_nodes.specs.Call.{RunCall}
-use Rattle.roc_cli_nodes.specs.Words.{IsReplay, IsGen, node_files, program_of, workload_of, NamesProgram, NamesWorkload, NamesNodeFiles}
+use Rattle.roc_cli_nodes.specs.Words.{IsGen, node_files, program_of, workload_of, NamesProgram, NamesWorkload, NamesNodeFiles}
 use Rattle.roc_cli_files.specs.Held.{NodeFiles, Holds, HoldsMore, HoldsPlan, HoldsText, HoldsFault, HoldsMisuse, HoldsRejected}
-use Rattle.roc_cli.specs.Refused.{AreRefusedWords, by_clap, no_value, no_shard, IsRefused, long_workload, no_text, out_of_scope, long_schedule, bad_schedule, long_cluster, bad_cluster, long_requests, bad_requests, bad_logs}
-use Rattle.roc_cli.specs.Fit.{ReplayFits, PrintFits, CheckFits, IsFit}
+use Rattle.roc_cli.specs.Refused.{AreRefusedWords, by_clap, no_value, no_shard, IsRefused, long_workload, no_text, out_of_scope, long_schedule, bad_next, bad_schedule, long_cluster}
+use Rattle.roc_cli.specs.Refused.{bad_cluster, long_requests, bad_requests, bad_logs}
+use Rattle.roc_cli.specs.Fit.{PrintFits, CheckFits}
 use Rattle.roc_cli.specs.Inner.Faultless.{IsFaultless}
 use Rattle.roc_cli.specs.Inner.Texts.{TextLaws}
-use Rattle.roc_cli.proofs.Commands.{not_audit, refused_logs}
-use Rattle.roc_cli_nodes.proofs.Naming.{unlike, same_name, no_name, as_workload, replay_schedule}
+use Rattle.roc_cli.proofs.Commands.{not_audit, refused_logs, not_next, judged_alone}
+use Rattle.roc_cli_nodes.proofs.Naming.{unlike, same_name, no_name, as_workload}
 
 -- ---- what a file holds
 
@@ -90,50 +89,6 @@ module _ (laws : TextLaws) (content : List ℕ → Option (List ℕ)) (workload 
 
 -- a file that is refused needs words of its own
 module _ (laws : TextLaws) (call : RunCall) where
-  module _ (fit : ReplayFits call) where
-    abbrev replayed : AreWordsOf call.words (replay fit.workload fit.schedule)
-    replayed = fit.given
-
-    the_workload : (name : List ℕ) → NamesWorkload call.words name → name ≡ fit.workload
-    the_workload name names = same_name workload_of call.words name fit.workload names (replay fit.workload fit.schedule, fit.given, refl)
-
-    the_program : (name : List ℕ) → NamesProgram call.words name → name ≡ fit.workload
-    the_program name names = the_workload name (as_workload call.words name names)
-
-    the_schedule : (name other : List ℕ) → IsReplay call.words name other → other ≡ fit.schedule
-    the_schedule name other = replay_schedule call.words fit.workload fit.schedule name other fit.given
-
-    no_nodes : (files : NodeFiles) → NamesNodeFiles call.words files → ⊥
-    no_nodes = no_name node_files call.words (replay fit.workload fit.schedule) fit.given refl
-
-    replay_right : (line : List ℕ) → IsRefused call line → ⊥
-    replay_right _ (long_workload workload names more same) = not_long laws call.files.content fit.workload fit.bytes fit.held fit.planned.text.tree fit.planned.text.text workload (the_workload workload names) more
-    replay_right _ (no_text workload line what names held same) = not_faulty laws call.files.content fit.workload fit.bytes fit.held fit.planned.text.tree fit.planned.text.text workload line what (the_workload workload names) held
-    replay_right _ (out_of_scope workload fault names held same) = in_scope laws call.files.content fit.workload fit.bytes fit.held fit.plan.program fit.planned.text workload fault (the_program workload names) held
-    replay_right _ (long_schedule workload schedule plan given planned more same) =
-        let past = told_more call.files.content fit.schedule schedule fit.text most_bytes fit.scheduled (the_schedule workload schedule given) more in
-        let size = fit.of_text.schedule.size in
-        absurd (omega arith)
-    replay_right _ (bad_schedule plan bytes asked number what h) =
-        let e : plan ≡ fit.plan = same_plan laws call.files.content fit.workload fit.bytes fit.held fit.plan fit.planned asked.workload plan
-        (the_program asked.workload (replay asked.workload asked.schedule, asked.given, refl)) asked.of_workload in
-        let f : fit.text ≡ bytes = told call.files.content fit.schedule asked.schedule fit.text bytes fit.scheduled (the_schedule asked.workload asked.schedule asked.given) asked.of_schedule in
-        laws.no_text_fault fit.plan fit.text fit.lines fit.of_text fit.sends number what call.out.old call.out.new
-        (subst (λ b. IsTextFault fit.plan b number what call.out.old call.out.new) (sym f)
-        (subst (λ p. IsTextFault p bytes number what call.out.old call.out.new) e h))
-    replay_right _ (long_cluster files plan names planned more same) = no_nodes files names
-    replay_right _ (bad_cluster files plan fault names planned held same) = no_nodes files names
-    replay_right _ (long_requests files plan addrs name names planned held is more same) = no_nodes files names
-    replay_right _ (bad_requests files plan addrs name number what names planned held is not same) = no_nodes files names
-    replay_right _ (bad_logs line refused same) = not_audit ⊥ call.words (replay fit.workload fit.schedule) fit.given refl (refused_logs call line refused)
-
-    replay_faultless : IsFaultless call
-    replay_faultless = record {
-      taken = words_taken call (replay fit.workload fit.schedule) fit.given no_nodes;
-      acceptable = λ h. not_rejected laws call.files.content fit.workload fit.bytes fit.held fit.plan fit.planned h.workload h.program h.said (the_program h.workload h.named) h.held;
-      right = replay_right;
-    }
-
   module _ (fit : CheckFits call) where
     checked_workload : (name : List ℕ) → NamesWorkload call.words name → name ≡ fit.workload
     checked_workload name names = same_name workload_of call.words name fit.workload names (check fit.workload, fit.given, refl)
@@ -148,18 +103,19 @@ module _ (laws : TextLaws) (call : RunCall) where
     check_right _ (long_workload workload names more same) = not_long laws call.files.content fit.workload fit.bytes fit.held fit.planned.text.tree fit.planned.text.text workload (checked_workload workload names) more
     check_right _ (no_text workload line what names held same) = not_faulty laws call.files.content fit.workload fit.bytes fit.held fit.planned.text.tree fit.planned.text.text workload line what (checked_workload workload names) held
     check_right _ (out_of_scope workload fault names held same) = in_scope laws call.files.content fit.workload fit.bytes fit.held fit.plan.program fit.planned.text workload fault (checked_program workload names) held
-    check_right _ (long_schedule workload schedule plan given planned more same) = unlike ⊥ call.words (replay workload schedule) (check fit.workload) given fit.given refl
-    check_right _ (bad_schedule plan bytes asked number what h) = unlike ⊥ call.words (replay asked.workload asked.schedule) (check fit.workload) asked.given fit.given refl
+    check_right _ (long_schedule workload schedule growth plan given planned more same) = unlike ⊥ call.words (replay workload schedule growth) (check fit.workload) given fit.given refl
+    check_right _ (bad_next line refused same) = not_next call ⊥ (check fit.workload) fit.given refl refl line refused
+    check_right _ (bad_schedule plan next bytes asked number what h) = unlike ⊥ call.words (replay asked.under.workload asked.under.schedule asked.under.growth) (check fit.workload) asked.under.given fit.given refl
     check_right _ (long_cluster files plan names planned more same) = checked_alone files names
     check_right _ (bad_cluster files plan fault names planned held same) = checked_alone files names
     check_right _ (long_requests files plan addrs name names planned held is more same) = checked_alone files names
     check_right _ (bad_requests files plan addrs name number what names planned held is not same) = checked_alone files names
     check_right _ (bad_logs line refused same) = not_audit ⊥ call.words (check fit.workload) fit.given refl (refused_logs call line refused)
 
-    check_faultless : IsFaultless call
+    pub check_faultless : IsFaultless call
     check_faultless = record {
       taken = words_taken call (check fit.workload) fit.given checked_alone;
-      acceptable = λ h. not_rejected laws call.files.content fit.workload fit.bytes fit.held fit.plan fit.planned h.workload h.program h.said (checked_program h.workload h.named) h.held;
+      acceptable = λ h. not_rejected laws call.files.content fit.workload fit.bytes fit.held fit.plan fit.planned h.workload h.program h.said (checked_program h.workload (judged_alone call (check fit.workload) fit.given refl h.workload h.named)) h.held;
       right = check_right;
     }
 
@@ -177,18 +133,19 @@ module _ (laws : TextLaws) (call : RunCall) where
     print_right _ (long_workload workload names more same) = not_long laws call.files.content fit.workload fit.bytes fit.held fit.tree fit.text workload (printed_workload workload names) more
     print_right _ (no_text workload line what names held same) = not_faulty laws call.files.content fit.workload fit.bytes fit.held fit.tree fit.text workload line what (printed_workload workload names) held
     print_right _ (out_of_scope workload fault names held same) = print_no_program workload names
-    print_right _ (long_schedule workload schedule plan given planned more same) = unlike ⊥ call.words (replay workload schedule) (print fit.workload) given fit.given refl
-    print_right _ (bad_schedule plan bytes asked number what h) = unlike ⊥ call.words (replay asked.workload asked.schedule) (print fit.workload) asked.given fit.given refl
+    print_right _ (long_schedule workload schedule growth plan given planned more same) = unlike ⊥ call.words (replay workload schedule growth) (print fit.workload) given fit.given refl
+    print_right _ (bad_next line refused same) = not_next call ⊥ (print fit.workload) fit.given refl refl line refused
+    print_right _ (bad_schedule plan next bytes asked number what h) = unlike ⊥ call.words (replay asked.under.workload asked.under.schedule asked.under.growth) (print fit.workload) asked.under.given fit.given refl
     print_right _ (long_cluster files plan names planned more same) = printed_alone files names
     print_right _ (bad_cluster files plan fault names planned held same) = printed_alone files names
     print_right _ (long_requests files plan addrs name names planned held is more same) = printed_alone files names
     print_right _ (bad_requests files plan addrs name number what names planned held is not same) = printed_alone files names
     print_right _ (bad_logs line refused same) = not_audit ⊥ call.words (print fit.workload) fit.given refl (refused_logs call line refused)
 
-    print_faultless : IsFaultless call
+    pub print_faultless : IsFaultless call
     print_faultless = record {
       taken = words_taken call (print fit.workload) fit.given printed_alone;
-      acceptable = λ h. print_no_program h.workload h.named;
+      acceptable = λ h. print_no_program h.workload (judged_alone call (print fit.workload) fit.given refl h.workload h.named);
       right = print_right;
     }
 
@@ -206,23 +163,18 @@ module _ (laws : TextLaws) (call : RunCall) where
     gen_right _ (long_workload workload names more same) = no_file workload names
     gen_right _ (no_text workload line what names held same) = no_file workload names
     gen_right _ (out_of_scope workload fault names held same) = no_program workload names
-    gen_right _ (long_schedule workload schedule plan of planned more same) = unlike ⊥ call.words (replay workload schedule) (gen seed shards txns part) of given refl
-    gen_right _ (bad_schedule plan bytes asked number what h) = unlike ⊥ call.words (replay asked.workload asked.schedule) (gen seed shards txns part) asked.given given refl
+    gen_right _ (long_schedule workload schedule growth plan of planned more same) = unlike ⊥ call.words (replay workload schedule growth) (gen seed shards txns part) of given refl
+    gen_right _ (bad_next line refused same) = not_next call ⊥ (gen seed shards txns part) given refl refl line refused
+    gen_right _ (bad_schedule plan next bytes asked number what h) = unlike ⊥ call.words (replay asked.under.workload asked.under.schedule asked.under.growth) (gen seed shards txns part) asked.under.given given refl
     gen_right _ (long_cluster files plan names planned more same) = generated_alone files names
     gen_right _ (bad_cluster files plan fault names planned held same) = generated_alone files names
     gen_right _ (long_requests files plan addrs name names planned held is more same) = generated_alone files names
     gen_right _ (bad_requests files plan addrs name number what names planned held is not same) = generated_alone files names
     gen_right _ (bad_logs line refused same) = not_audit ⊥ call.words (gen seed shards txns part) given refl (refused_logs call line refused)
 
-    gen_faultless : IsFaultless call
+    pub gen_faultless : IsFaultless call
     gen_faultless = record {
       taken = words_taken call (gen seed shards txns part) given generated_alone;
-      acceptable = λ h. no_program h.workload h.named;
+      acceptable = λ h. no_program h.workload (judged_alone call (gen seed shards txns part) given refl h.workload h.named);
       right = gen_right;
     }
-
-  pub faultless : IsFit call → IsFaultless call
-  faultless (inl fit) = replay_faultless fit
-  faultless (inr (inl fit)) = print_faultless fit
-  faultless (inr (inr (inl fit))) = check_faultless fit
-  faultless (inr (inr (inr (seed, shards, txns, part, given)))) = gen_faultless seed shards txns part given

@@ -17,13 +17,14 @@ use Rattle.roc_cli_words.specs.Commands.{Command, replay, audit}
 use Rattle.roc_cli_nodes.specs.Call.{RunCall}
 use Rattle.roc_cli_nodes.specs.Words.{workload_of, NamesNodes, NamesProgram, NamesWorkload}
 use Rattle.roc_cli.specs.Audited.{ComesToLog, IsAuditUnder, tag_under}
-use Rattle.roc_cli.specs.Done.{Rejects}
-use Rattle.roc_cli.specs.Refused.{AreRefusedWords, AreRefusedLogs, long_log, bad_log, no_server, IsRefused, long_workload, no_text, out_of_scope, long_schedule, bad_schedule, long_cluster, bad_cluster, long_requests, bad_requests, bad_logs}
+use Rattle.roc_cli.specs.Done.{ComesToWorkload, Rejects}
+use Rattle.roc_cli.specs.Refused.{AreRefusedWords, AreRefusedLogs, long_log, bad_log, no_server, IsRefused, long_workload, no_text, out_of_scope, long_schedule, bad_next, bad_schedule}
+use Rattle.roc_cli.specs.Refused.{long_cluster, bad_cluster, long_requests, bad_requests, bad_logs}
 use Rattle.roc_cli.specs.Fit.{TellsLog, TellLogs, AuditAsked, AuditFits}
 use Rattle.roc_cli.specs.Inner.Faultless.{IsAuditable}
 use Rattle.roc_cli.specs.Inner.Texts.{TextLaws}
 use Rattle.roc_cli_nodes.proofs.Naming.{one_command, same_name, as_workload}
-use Rattle.roc_cli.proofs.Commands.{not_audit, audit_alone}
+use Rattle.roc_cli.proofs.Commands.{not_audit, audit_alone, not_next, judged_alone}
 use Rattle.roc_cli.proofs.Fitting.{told, told_more, not_long, not_faulty, in_scope, same_plan, not_rejected, words_taken}
 
 -- ---- logs that are told
@@ -116,9 +117,10 @@ module _ (laws : TextLaws) (call : RunCall) (names : List (List ℕ)) (fit : Aud
   pub asked_taken : (line : List ℕ) → AreRefusedWords call line → ⊥
   asked_taken = words_taken call (audit fit.workload names) fit.given (λ files named. alone (files, named))
 
-  pub asked_unrejected : (workload : List ℕ) (program : Workload) (said : Line) → NamesProgram call.words workload → HoldsRejected call.files.content workload program said → ⊥
-  asked_unrejected workload program said named held =
-      not_rejected laws call.files.content fit.workload fit.bytes fit.held fit.plan fit.planned workload program said (audited_program workload named) held
+  pub asked_unrejected : (workload : List ℕ) (program : Workload) (said : Line) → ComesToWorkload call workload → HoldsRejected call.files.content workload program said → ⊥
+  asked_unrejected workload program said comes held =
+      not_rejected laws call.files.content fit.workload fit.bytes fit.held fit.plan fit.planned workload program said
+      (audited_program workload (judged_alone call (audit fit.workload names) fit.given refl workload comes)) held
 
   pub asked_acceptable : Rejects call → ⊥
   asked_acceptable h = asked_unrejected h.workload h.program h.said h.named h.held
@@ -131,8 +133,10 @@ module _ (laws : TextLaws) (call : RunCall) (names : List (List ℕ)) (fit : Aud
       not_faulty laws call.files.content fit.workload fit.bytes fit.held fit.planned.text.tree fit.planned.text.text workload line what (audited_workload workload named) held
   asked_right _ none (out_of_scope workload fault named held same) =
       in_scope laws call.files.content fit.workload fit.bytes fit.held fit.plan.program fit.planned.text workload fault (audited_program workload named) held
-  asked_right _ none (long_schedule workload schedule plan given planned more same) = not_audit ⊥ call.words (replay workload schedule) given refl (fit.workload, names, fit.given)
-  asked_right _ none (bad_schedule plan bytes asked number what h) = not_audit ⊥ call.words (replay asked.workload asked.schedule) asked.given refl (fit.workload, names, fit.given)
+  asked_right _ none (long_schedule workload schedule growth plan given planned more same) = not_audit ⊥ call.words (replay workload schedule growth) given refl (fit.workload, names, fit.given)
+  asked_right _ none (bad_next line refused same) = not_next call ⊥ (audit fit.workload names) fit.given refl refl line refused
+  asked_right _ none (bad_schedule plan next bytes asked number what h) =
+      not_audit ⊥ call.words (replay asked.under.workload asked.under.schedule asked.under.growth) asked.under.given refl (fit.workload, names, fit.given)
   asked_right _ none (long_cluster files plan named planned more same) = alone (files, named)
   asked_right _ none (bad_cluster files plan fault named planned held same) = alone (files, named)
   asked_right _ none (long_requests files plan addrs name named planned held is more same) = alone (files, named)

@@ -2,6 +2,7 @@ pub mod Commands
 pub mod Faults
 pub mod Loading
 pub mod Fitting
+pub mod FittingReplays
 pub mod FittingNodes
 pub mod Loads
 pub mod Counts
@@ -9,6 +10,8 @@ pub mod Told
 pub mod Finished
 pub mod Fits
 pub mod Unfitting
+pub mod UnfittingReplays
+pub mod UnfittingNodes
 mod Verdicts
 mod FittingLogs
 mod HonestLogs

@@ -6,8 +6,8 @@ use Rattle.std.proofs.lemmas.Option.{same_Some}
 use Rattle.roc_program.specs.Program.{Workload}
 use Rattle.roc_program.specs.LookUps.{procedure_named}
 use Rattle.roc_plan.specs.Groups.{Plan}
-use Rattle.roc_protocol.specs.declared.event.Event.TheVariants as event
-use Rattle.roc_views.specs.World.{World}
+use Rattle.roc_growth.specs.declared.event.Event.TheVariants as event
+use Rattle.roc_growth.specs.World.{GrownWorld}
 use Rattle.roc_sched.specs.declared.fault.What.{What}
 use Rattle.roc_sched.specs.declared.fault.What.TheVariants as what
 use Rattle.roc_sched.specs.declared.line.Act.{Act}
@@ -34,7 +34,7 @@ use Rattle.roc_cli.proofs.FittingNodes.{at_behind}
 
 -- no message is named, so that none can lack
 abbrev NamesNone : Wanted → Type 0
-NamesNone a = (w : World) → AsksForSent w a
+NamesNone a = (w : GrownWorld) → AsksForSent w a
 
 module _ (program : Workload) where
   -- what a call or a choice asks for
@@ -68,14 +68,14 @@ module _
     (one_list : (forms : Forms) (shards : ℕ) (text : List ℕ) (some others : List Line) → IsSchedule forms shards text some → IsSchedule forms shards text others → some ≡ others)
     (one_of_both : (forms : Forms) (shards : ℕ) (text : List ℕ) (lines : List Line) (line : ℕ) (what : What) → IsSchedule forms shards text lines → IsScheduleFault forms shards text line what → ⊥)
     (plan : Plan) (text : List ℕ) (lines : List Line) (load : IsLoadOf plan.program text lines) where
-  pub load_is_right : (number : ℕ) (fault : What) (old new : Option (List ℕ)) → IsTextFault plan text number fault old new → ⊥
-  load_is_right number fault old new (no_schedule is same) = one_of_both played_forms plan.program.shards text lines number fault (load.read true) is
+  pub load_is_right : (number : ℕ) (fault : What) (old new : Option (List ℕ)) → IsTextFault plan None text number fault old new → ⊥
+  load_is_right number fault old new (no_schedule is same) = one_of_both (played_forms None) plan.program.shards text lines number fault (load.read true) is
   load_is_right number fault old new (unfit h same) =
-      let e : lines ≡ h.before ++ h.line ∷ h.behind = one_list played_forms plan.program.shards text lines _ (load.read true) h.schedule in
+      let e : lines ≡ h.before ++ h.line ∷ h.behind = one_list (played_forms None) plan.program.shards text lines _ (load.read true) h.schedule in
       never_unfit plan.program h.line fault (at_behind (λ line. IsCallOrChoice plan.program line.act) h.before h.line h.behind (subst (AllByRecursion (λ line. IsCallOrChoice plan.program line.act)) e load.fits)) h.is
   load_is_right number fault old new (unsent is h) =
       let fits : AllByRecursion (λ line. IsCallOrChoice plan.program line.act) h.of_schedule.lines =
-      subst (AllByRecursion (λ line. IsCallOrChoice plan.program line.act)) (one_list played_forms plan.program.shards text lines _ (load.read true) h.of_schedule.schedule) load.fits in
+      subst (AllByRecursion (λ line. IsCallOrChoice plan.program line.act)) (one_list (played_forms None) plan.program.shards text lines _ (load.read true) h.of_schedule.schedule) load.fits in
       h.unsent
       (at_behind (λ one. NamesNone one.wanted) h.before h.line h.behind
       (each_made (λ line. item_of (asked_by plan.program line)) (λ line. IsCallOrChoice plan.program line.act) (λ one. NamesNone one.wanted) (never_named plan.program) h.of_schedule.lines _ fits h.of_schedule.asks)
@@ -84,7 +84,7 @@ module _
 -- ---- what is generated
 
 pub generated_run : {X E : Type 0} (items : X → List ℕ) (seed shards txns : ℕ) (plan : Plan) (summary : Summary) (result : Result X E) → IsPlanOfText (generated_workload shards) plan
-    → IsReplayed plan (generated_schedule seed shards txns) summary None None → IfOk result (λ t. items t ≡ load_summary_text summary.answered summary.pending summary.messages summary.busy)
+    → IsReplayed plan None (generated_schedule seed shards txns) summary None None → IfOk result (λ t. items t ≡ load_summary_text summary.answered summary.pending summary.messages summary.busy)
     → IfOk result (λ t. IsGenerated seed shards txns part.Run (items t))
 generated_run items seed shards txns plan summary (Ok t) planned replayed e = subst (IsGenerated seed shards txns part.Run) (sym e) (the_run plan summary planned replayed)
 generated_run items seed shards txns plan summary (Err error) planned replayed e = tt

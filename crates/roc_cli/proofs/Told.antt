@@ -8,23 +8,24 @@ use Rattle.roc_base.specs.declared.node.Shard.{Shard}
 use Rattle.roc_node_local.specs.declared.stops.StopEnd.TheVariants as stop_end
 use Rattle.roc_node_local.specs.declared.local.LocalEnd.TheVariants as local_end
 use Rattle.roc_cli_files.specs.declared.fault.Fault.{Fault}
-use Rattle.roc_cli_files.specs.declared.fault.Fault.TheVariants.{Rejected, Refused, Value, NoShard, Journal, Memory, Unanswered, File, Sink, Link, Child, Disk, Full, Refuted, Book}
+use Rattle.roc_cli_files.specs.declared.fault.Fault.TheVariants.{Rejected, Refused, Value, NoShard, Growth, Same, Journal, Memory, Unanswered, File, Sink, Link, Child, Disk, Full, Refuted, Book}
 use Rattle.roc_cli_nodes.specs.Call.{RunCall, WholeCall, TakesNothing, ReadsAll}
 use Rattle.roc_cli_files.specs.Says.{Errors, Says, word_line, journal_line, file_line, child_line, disk_line, full_line, book_line}
 use Rattle.roc_cli_nodes.specs.Words.{AreReplayWords, ArePrintWords, AreCheckWords, AreGenWords, AreAuditWords, AreServeWords, AreSubmitWords, AreStopWords, AreLocalWords, AreCommandWords, NamesNodes}
 use Rattle.roc_cli.specs.Done.{Replays, Prints, Checks, Generates, Rejects}
 use Rattle.roc_cli.specs.Audited.{Audits, Refutes}
 use Rattle.roc_cli.specs.Fit.{IsFit}
-use Rattle.roc_cli_nodes.specs.Nodes.{ServeEnded, SubmitEnded, StopEnded, LocalEnded, AreNodesEnded, IsServedWith, IsBookBlamed, IsChildBlamed, BlamesAnyChild}
+use Rattle.roc_cli_nodes.specs.Nodes.{ServeEnded, GrownServeEnded, SubmitEnded, GrownSubmitEnded, StopEnded, LocalEnded, AreNodesEnded, IsServedWith, IsBookBlamed, IsChildBlamed, BlamesAnyChild}
 use Rattle.roc_cli.specs.Stopped.{IsUnread, RunsOut, with_nothing, with_lines, CutsOutput}
-use Rattle.roc_cli.specs.Refused.{AreRefusedWords, IsRefused, RefusesJournal, long_workload, no_text, out_of_scope, long_schedule, bad_schedule, long_cluster, bad_cluster, long_requests, bad_requests, bad_logs}
+use Rattle.roc_cli.specs.Refused.{AreRefusedWords, IsRefused, RefusesJournal, long_workload, no_text, out_of_scope, long_schedule, bad_next, bad_schedule, long_cluster, bad_cluster}
+use Rattle.roc_cli.specs.Refused.{long_requests, bad_requests, bad_logs}
 use Rattle.roc_cli.specs.Status.{IsOneOf, Answers}
 use Rattle.roc_cli.specs.Inner.Faultless.{IsFaultless, IsShardless, IsUndone, IsUnplanned, IsUnwritten, IsUnplayed, IsAuditable, IsExplicable, AreFitting}
 use Rattle.roc_cli_files.specs.Fault.{IsTold, EndsWith, line_of, Blames}
 use Rattle.roc_cli.specs.Inner.Ends.{RefusesWords, Fails, WholeEnds}
 use Rattle.roc_cli_nodes.specs.Ends.{LoopEnded}
 use Rattle.roc_cli_nodes.proofs.Named.{nodes_named, child_named, nodes_words, ended_by_journal, keeper_ended, keeper_named, keeper_words, logger_ended}
-use Rattle.roc_cli.proofs.Commands.{of_program, refused_words, input_words, cut_words, audit_words, refuted_words, fit_names_no_nodes, fit_names_no_logs}
+use Rattle.roc_cli.proofs.Commands.{judged_words, refused_words, input_words, cut_words, audit_words, refuted_words, fit_names_no_nodes, fit_names_no_logs}
 
 -- ---- one fault, told
 
@@ -34,11 +35,12 @@ module _ (call : RunCall) where
   refused_out _ (long_workload workload names more same) = with_nothing same
   refused_out _ (no_text workload line what names held same) = with_nothing same
   refused_out _ (out_of_scope workload fault names held same) = with_nothing same
-  refused_out _ (long_schedule workload schedule plan given planned more same) = with_nothing same
-  refused_out _ (bad_schedule plan bytes asked number what (no_schedule fault same)) = with_nothing same
-  refused_out _ (bad_schedule plan bytes asked number what (unfit fault same)) = with_nothing same
-  refused_out _ (bad_schedule plan bytes asked number what (unsent is h)) =
-      with_lines plan bytes asked (behind_lines h.before (h.line ∷ h.behind) h.steps h.world h.of_schedule h.played h.taken)
+  refused_out _ (long_schedule workload schedule growth plan given planned more same) = with_nothing same
+  refused_out _ (bad_next line refused same) = with_nothing same
+  refused_out _ (bad_schedule plan next bytes asked number what (no_schedule fault same)) = with_nothing same
+  refused_out _ (bad_schedule plan next bytes asked number what (unfit fault same)) = with_nothing same
+  refused_out _ (bad_schedule plan next bytes asked number what (unsent is h)) =
+      with_lines plan next bytes asked (behind_lines h.before (h.line ∷ h.behind) h.steps h.world h.of_schedule h.played h.taken)
   refused_out _ (long_cluster files plan names planned more same) = with_nothing same
   refused_out _ (bad_cluster files plan fault names planned held same) = with_nothing same
   refused_out _ (long_requests files plan addrs name names planned held is more same) = with_nothing same
@@ -95,6 +97,8 @@ module _ (call : WholeCall) (err : Errors) where
   said (Refused text) status none read (e, says) = ended status 2 (line_of (Refused text)) e says (no_words (line_of (Refused text)) none read)
   said (Value name) status none read (e, says) = ended status 2 (line_of (Value name)) e says (no_words (line_of (Value name)) none read)
   said NoShard status none read (e, says) = ended status 2 (line_of NoShard) e says (no_words (line_of NoShard) none read)
+  said (Growth file fault) status h read (e, says) = ended status 3 (line_of (Growth file fault)) e says (refused (line_of (Growth file fault)) h read)
+  said (Same file) status h read (e, says) = ended status 3 (line_of (Same file)) e says (refused (line_of (Same file)) h read)
   said Memory status h read (e, says) = ended status 4 (line_of Memory) e says (memory (inl h) read)
   said Unanswered status h read told = absurd h
   said (File file) status h only (e, says) = ended status 6 (line_of (File file)) e says (unread file.now h)
@@ -277,7 +281,7 @@ module _ (call : WholeCall) (err : Errors) where
 
   -- words that are none of a command's: only refused words and want of memory
   of_words : (status : ℕ) (line : List ℕ) → IsFailure call status line → (AreCommandWords call.run.words → ⊥) → IsOneOf (2 ∷ 4 ∷ []) status
-  of_words _ _ (rejected h read) none = absurd (none (of_program call.run.words h.workload h.named))
+  of_words _ _ (rejected h read) none = absurd (none (judged_words call.run h.workload h.named))
   of_words _ _ (no_words said h read) none = inl refl
   of_words _ _ (refused line h read) none = absurd (none (refused_words call.run line h))
   of_words _ _ (memory h read) none = inr (inl refl)
@@ -353,8 +357,8 @@ module _ (call : WholeCall) (err : Errors) where
         checked = not_done (AreCheckWords call.run.words → Checks call.run) status h.line h.is;
         generated = not_done (AreGenWords call.run.words → Generates call.run) status h.line h.is;
         audited = not_done (AreAuditWords call.run.words → Audits call.run) status h.line h.is;
-        served = not_done (AreServeWords call.run.words → ServeEnded call.run call.link call.disk call.book serve_end.Done) status h.line h.is;
-        submitted = not_done (AreSubmitWords call.run.words → SubmitEnded call.run call.link call.book submit_end.Done) status h.line h.is;
+        served = not_done (AreServeWords call.run.words → ServeEnded call.run call.link call.disk call.book serve_end.Done ⊎ GrownServeEnded call.run call.link serve_end.Done) status h.line h.is;
+        submitted = not_done (AreSubmitWords call.run.words → SubmitEnded call.run call.link call.book submit_end.Done ⊎ GrownSubmitEnded call.run call.link submit_end.Done) status h.line h.is;
         stopped = not_done (AreStopWords call.run.words → StopEnded call.run call.link stop_end.Done) status h.line h.is;
         ran = not_done (AreLocalWords call.run.words → LocalEnded call.run call.link call.children local_end.Done) status h.line h.is;
         childless = not_done (call.children.faults_new ≡ call.children.faults_old) status h.line h.is;

@@ -42,17 +42,18 @@ module _ (laws : TextLaws) (content : List ℕ → Option (List ℕ)) (program :
 -- where no logs are held of which none is missing, nothing was judged
 module _ (laws : TextLaws) (call : WholeCall) (names : List (List ℕ)) (fit : AuditAsked call.run names) (none : (plan : Plan) (logs : List Log) → IsAuditOf call.run plan logs → ⊥) where
   undone : Ends call.run (Ok tt) → ⊥
-  undone (inl done) = not_audit ⊥ call.run.words (replay done.asked.workload done.asked.schedule) done.asked.given refl (fit.workload, names, fit.given)
+  undone (inl done) = not_audit ⊥ call.run.words (replay done.asked.under.workload done.asked.under.schedule done.asked.under.growth) done.asked.under.given refl (fit.workload, names, fit.given)
   undone (inr (inl done)) = not_audit ⊥ call.run.words (print done.workload) done.given refl (fit.workload, names, fit.given)
   undone (inr (inr (inl done))) = not_audit ⊥ call.run.words (check done.workload) done.given refl (fit.workload, names, fit.given)
   undone (inr (inr (inr (inl done)))) = not_audit ⊥ call.run.words (gen done.seed done.shards done.txns done.part) done.given refl (fit.workload, names, fit.given)
   undone (inr (inr (inr (inr done)))) = none done.plan done.logs done.asked
 
   uncut : CutsOutput call.run → ⊥
-  uncut (in_report plan bytes asked h) = not_audit ⊥ call.run.words (replay asked.workload asked.schedule) asked.given refl (fit.workload, names, fit.given)
+  uncut (in_report plan next bytes asked h) =
+      not_audit ⊥ call.run.words (replay asked.under.workload asked.under.schedule asked.under.growth) asked.under.given refl (fit.workload, names, fit.given)
   uncut (in_text workload tree given held front) = not_audit ⊥ call.run.words (print workload) given refl (fit.workload, names, fit.given)
   uncut (in_check workload plan given held front) = not_audit ⊥ call.run.words (check workload) given refl (fit.workload, names, fit.given)
-  uncut (in_rejection workload program said named held front) = asked_unrejected laws call.run names fit workload program said named held
+  uncut (in_rejection workload program said comes held front) = asked_unrejected laws call.run names fit workload program said comes held
   uncut (in_generated seed shards txns part text given generated front) = not_audit ⊥ call.run.words (gen seed shards txns part) given refl (fit.workload, names, fit.given)
   uncut (in_verdict plan logs asked verdict is front) = none plan logs asked
 

@@ -1,5 +1,5 @@
 -- Which words and files are refused, and what is said of them: docs/FORMATS.md, "The program"
-use Rattle.std.specs.Prelude.{◌≡◌, ℕ, List, Some, codes}
+use Rattle.std.specs.Prelude.{◌≡◌, ℕ, List, Option, Some, codes}
 use Rattle.roc_lang.specs.FaultText.{what_text}
 use Rattle.roc_lang.specs.Grammar.{text_limit}
 use Rattle.roc_lang.specs.Scope.{Fault}
@@ -7,6 +7,8 @@ use Rattle.roc_lang.specs.declared.fault.What.{What}
 use Rattle.roc_lang_scope.specs.FaultText.{kind_text}
 use Rattle.roc_base.specs.declared.node.Shard.{Shard}
 use Rattle.roc_plan.specs.Groups.{Plan}
+use Rattle.roc_epoch.specs.declared.fault.GrowthFault.{GrowthFault}
+use Rattle.roc_epoch.specs.declared.next.Next.{Next}
 use Rattle.roc_log.specs.declared.fault.What.{What as LogWhat}
 use Rattle.roc_log.specs.declared.line.Log.{Log}
 use Rattle.roc_log.specs.FaultText.{what_text as log_text}
@@ -17,6 +19,8 @@ use Rattle.roc_cluster.specs.declared.fault.ClusterFault.{ClusterFault}
 use Rattle.roc_cluster.specs.FaultText.{fault_text as cluster_text}
 use Rattle.roc_sched.specs.declared.fault.What.{What as ScheduleWhat}
 use Rattle.roc_sched.specs.FaultText.{what_text as schedule_text}
+use Rattle.roc_sched.specs.declared.line.Request.{Request}
+use Rattle.roc_replay.specs.BoundLine.{last_program}
 use Rattle.roc_replay.specs.Ended.{IsTextFault}
 use Rattle.roc_cli_words.specs.declared.value.ValueName.{ValueName}
 use Rattle.roc_cli_words.specs.FaultText.{value_text}
@@ -26,10 +30,12 @@ use Rattle.roc_node_serve.specs.declared.ends.ServeEnd.TheVariants as serve_end
 use Rattle.roc_cli_nodes.specs.Call.{RunCall, WholeCall, TakesNothing}
 use Rattle.roc_cli_nodes.specs.Words.{IsReplay, NamesProgram, NamesWorkload, NamesNodeFiles}
 use Rattle.roc_cli_nodes.specs.Nodes.{IsServedWith}
-use Rattle.roc_cli_files.specs.Held.{NodeFiles, HoldsMore, HoldsFault, HoldsMisuse, HoldsPlan, HoldsCluster, HoldsNoCluster, HoldsNoRequests, LacksShard, HoldLogs, HoldsNoLog, most_log_bytes}
-use Rattle.roc_cli.specs.Done.{IsReplayOf}
+use Rattle.roc_cli_files.specs.Held.{NodeFiles, HoldsMore, HoldsFault, HoldsMisuse, HoldsPlan, HoldsCluster, HoldsNoCluster, HoldsNoRequests, HoldLogs, HoldsNoLog, most_log_bytes}
+use Rattle.roc_cli_files.specs.NodeNames.{HoldFirst, HoldsNext, HoldsNoGrowth, LacksShard}
+use Rattle.roc_cli.specs.Done.{IsReplayOf, ComesToNext, ComesToLater}
 use Rattle.roc_cli.specs.Audited.{ComesToLog, IsAuditUnder, tag_under}
-use Rattle.roc_cli_files.specs.Says.{word_line, long_line, text_line, fault_line, gap_line}
+use Rattle.roc_cli_files.specs.Fault.{growth_word}
+use Rattle.roc_cli_files.specs.Says.{word_line, long_line, text_line, fault_line, growth_line, gap_line}
 
 -- words that are refused, with what is said on standard error: the text of `clap`, which no clause tells, where it refuses them; or the name
 -- of the first value that is none, as of a log beside a journal; or `shard`, where the files hold what is needed and the shard that is to be served is not one of the workload
@@ -48,6 +54,24 @@ pub data AreRefusedLogs (call : RunCall) : List ℕ → Type 0 where
   no_server : (names : List (List ℕ)) (plan : Plan) (logs : List Log) (shard : Shard) (asked : IsAuditUnder call plan names)
       → HoldLogs call.files.content names plan (tag_under asked) logs → IsGap plan logs shard → AreRefusedLogs call (gap_line shard.0)
 
+-- the file of a workload to grow to, which is too long, no text of its grammar or out of scope; or one that is acceptable, but no grown one of the first, and
+-- what is wrong with it first; or a grown one with the tag of the first, by which nodes could not tell the two apart. Or that of the requests to submit
+-- then, which are too long, none, or do not fit the grown one
+pub data IsRefusedNext (call : RunCall) : List ℕ → Type 0 where
+  long_next : (name : List ℕ) (plan : Plan) → ComesToNext call name plan → HoldsMore call.files.content name text_limit → IsRefusedNext call (long_line name)
+  no_next_text : (name : List ℕ) (plan : Plan) (line : ℕ) (what : What) → ComesToNext call name plan → HoldsFault call.files.content name line what
+      → IsRefusedNext call (fault_line name line (what_text what))
+  next_out_of_scope : (name : List ℕ) (plan : Plan) (fault : Fault) → ComesToNext call name plan → HoldsMisuse call.files.content name fault
+      → IsRefusedNext call (fault_line name fault.line (kind_text fault.kind))
+  no_growth : (name : List ℕ) (plan : Plan) (fault : GrowthFault) → ComesToNext call name plan → HoldsNoGrowth call.files.content name plan.program fault
+      → IsRefusedNext call (growth_line name (growth_word fault))
+  same_tag : (files : NodeFiles) (plan : Plan) (tag : List ℕ) (addrs : List Addr) (requests : List Request) (name : List ℕ) (coords : ℕ) (next : Next) → NamesNodeFiles call.words files
+      → HoldFirst call.files.content files plan tag addrs requests → files.next ≡ Some (name, coords) → HoldsNext call.files.content name plan.program coords next → next.tag ≡ tag
+      → IsRefusedNext call (growth_line name (codes "same"))
+  long_later : (name : List ℕ) (plan : Plan) (next : Option Next) → ComesToLater call name plan next → HoldsMore call.files.content name most_bytes → IsRefusedNext call (long_line name)
+  bad_later : (name : List ℕ) (plan : Plan) (next : Option Next) (number : ℕ) (what : ScheduleWhat) → ComesToLater call name plan next
+      → HoldsNoRequests call.files.content name (last_program plan next) number what → IsRefusedNext call (fault_line name number (schedule_text what))
+
 -- the first file that is too long, no text of its grammar or out of scope, or does not fit the plan or the run, with its line on standard
 -- error, and what standard output took before
 pub data IsRefused (call : RunCall) : List ℕ → Type 0 where
@@ -57,10 +81,11 @@ pub data IsRefused (call : RunCall) : List ℕ → Type 0 where
       → IsRefused call (fault_line workload line (what_text what))
   out_of_scope : (workload : List ℕ) (fault : Fault) → NamesProgram call.words workload → HoldsMisuse call.files.content workload fault → TakesNothing call
       → IsRefused call (fault_line workload fault.line (kind_text fault.kind))
-  long_schedule : (workload schedule : List ℕ) (plan : Plan) → IsReplay call.words workload schedule → HoldsPlan call.files.content workload plan
+  long_schedule : (workload schedule : List ℕ) (growth : Option (List ℕ × ℕ)) (plan : Plan) → IsReplay call.words workload schedule growth → HoldsPlan call.files.content workload plan
       → HoldsMore call.files.content schedule most_bytes → TakesNothing call → IsRefused call (long_line schedule)
-  bad_schedule : (plan : Plan) (bytes : List ℕ) (asked : IsReplayOf call plan bytes) (number : ℕ) (what : ScheduleWhat) → IsTextFault plan bytes number what call.out.old call.out.new
-      → IsRefused call (fault_line asked.schedule number (schedule_text what))
+  bad_next : (line : List ℕ) → IsRefusedNext call line → TakesNothing call → IsRefused call line
+  bad_schedule : (plan : Plan) (next : Option Next) (bytes : List ℕ) (asked : IsReplayOf call plan next bytes) (number : ℕ) (what : ScheduleWhat)
+      → IsTextFault plan next bytes number what call.out.old call.out.new → IsRefused call (fault_line asked.under.schedule number (schedule_text what))
   long_cluster : (files : NodeFiles) (plan : Plan) → NamesNodeFiles call.words files → HoldsPlan call.files.content files.workload plan
       → HoldsMore call.files.content files.cluster text_limit → TakesNothing call → IsRefused call (long_line files.cluster)
   bad_cluster : (files : NodeFiles) (plan : Plan) (fault : ClusterFault) → NamesNodeFiles call.words files → HoldsPlan call.files.content files.workload plan

@@ -11,7 +11,7 @@ use Rattle.roc_cli_files.specs.Says.{Errors, Says, word_line, journal_line, file
 use Rattle.roc_cli_nodes.specs.Words.{AreReplayWords, ArePrintWords, AreCheckWords, AreGenWords, AreAuditWords, AreServeWords, AreSubmitWords, AreStopWords, AreLocalWords}
 use Rattle.roc_cli_nodes.specs.Words.{AreCommandWords, NamesJournal, NamesLog, NamesNodes}
 use Rattle.roc_cli.specs.Done.{Replays, Prints, Checks, Generates, Rejects}
-use Rattle.roc_cli_nodes.specs.Nodes.{ServeEnded, SubmitEnded, StopEnded, LocalEnded, AreNodesEnded, IsServedWith, IsBookBlamed, IsChildBlamed, BlamesAnyChild}
+use Rattle.roc_cli_nodes.specs.Nodes.{ServeEnded, GrownServeEnded, SubmitEnded, GrownSubmitEnded, StopEnded, LocalEnded, AreNodesEnded, IsServedWith, IsBookBlamed, IsChildBlamed, BlamesAnyChild}
 use Rattle.roc_cli.specs.Audited.{Audits, Refutes}
 use Rattle.roc_cli.specs.Fit.{IsFit, AuditFits, NodesFit, MissesShard}
 use Rattle.roc_cli.specs.Honest.{HonestFits}
@@ -28,7 +28,8 @@ IsOneOf (s ∷ statuses) status = (status ≡ s) ⊎ IsOneOf statuses status
 pub record Answers (call : WholeCall) (err : Errors) (status : ℕ) : Type 0 where
   pub statuses : status ≤ 13
   -- 0: the schedule was replayed, and its report was written, which explains itself: every reply that it shows is the one that the serial order
-  -- which it shows gives, in real-time order
+  -- which it shows gives, in real-time order; and where a workload is named to grow to, it is a grown one, and nothing of it stands there before anything of
+  -- the first
   pub replayed : status ≡ 0 → AreReplayWords call.run.words → Replays call.run
   -- ..or the workload's canonical text was written, or the text of its check, which is acceptable
   pub printed : status ≡ 0 → ArePrintWords call.run.words → Prints call.run
@@ -37,9 +38,10 @@ pub record Answers (call : WholeCall) (err : Errors) (status : ℕ) : Type 0 whe
   pub generated : status ≡ 0 → AreGenWords call.run.words → Generates call.run
   -- ..or the order was written that explains all that the named logs tell
   pub audited : status ≡ 0 → AreAuditWords call.run.words → Audits call.run
-  -- ..or the shard was served to the end, or each request has its reply
-  pub served : status ≡ 0 → AreServeWords call.run.words → ServeEnded call.run call.link call.disk call.book serve_end.Done
-  pub submitted : status ≡ 0 → AreSubmitWords call.run.words → SubmitEnded call.run call.link call.book submit_end.Done
+  -- ..or the shard was served to the end, or each request has its reply; by a node that may go over to a grown workload with another tag, where one is named
+  pub served : status ≡ 0 → AreServeWords call.run.words
+      → ServeEnded call.run call.link call.disk call.book serve_end.Done ⊎ GrownServeEnded call.run call.link serve_end.Done
+  pub submitted : status ≡ 0 → AreSubmitWords call.run.words → SubmitEnded call.run call.link call.book submit_end.Done ⊎ GrownSubmitEnded call.run call.link submit_end.Done
   -- ..or the stops were sent
   pub stopped : status ≡ 0 → AreStopWords call.run.words → StopEnded call.run call.link stop_end.Done
   -- ..or servers were started, each request has its reply, and the servers ended well
@@ -54,7 +56,8 @@ pub record Answers (call : WholeCall) (err : Errors) (status : ℕ) : Type 0 whe
   pub honest : HonestFits call.run → IsOneOf (0 ∷ 4 ∷ 6 ∷ 7 ∷ []) status
   -- ..and one with nodes is done, or as far as its turns led, unless the link failed it too, or its journal did or is refused
   pub complete_nodes : NodesFit call.run → (status ≡ 0) ⊎ ((4 ≤ status) ⊎ ((name : List ℕ) × RefusesJournal call name))
-  -- 1: exactly where the workload is not acceptable, unless memory, a file or standard output failed it; and the line that says why was written
+  -- 1: exactly where the workload is not acceptable, or one to grow to once what is read before is right, unless memory, a file or standard output failed it;
+  -- and the line that says why was written
   pub rejected : status ≡ 1 → Rejects call.run
   pub no_plan : LacksPlan call.run → IsOneOf (1 ∷ 4 ∷ 6 ∷ 7 ∷ []) status
   -- 2: exactly where the words are not those of a command, or the files are right and the words ask for a shard that the workload lacks, unless memory or
@@ -62,9 +65,10 @@ pub record Answers (call : WholeCall) (err : Errors) (status : ℕ) : Type 0 whe
   pub no_words : status ≡ 2 → TakesNothing call.run × (line : List ℕ) × AreRefusedWords call.run line × Says err line
   pub words : (AreCommandWords call.run.words → ⊥) → IsOneOf (2 ∷ 4 ∷ []) status
   pub no_shard : MissesShard call.run → IsOneOf (2 ∷ 4 ∷ 6 ∷ []) status
-  -- 3: a file is too long, no text of its grammar, out of scope, or does not fit the plan or the run; a shard has no log; or a journal is refused. Exactly so
-  -- for the workload of any command, the schedule of a replay and the logs of an audit, unless memory or a file failed it before, or standard output at
-  -- the lines before that of a message that was not sent
+  -- 3: a file is too long, no text of its grammar, out of scope, or does not fit the plan or the run; a workload is no grown one, or nodes could not tell it
+  -- from the first; a shard has no log; or a journal is refused. Exactly so for the workload of any command, one to grow to once what is read before is right,
+  -- the schedule of a replay and the logs of an audit, unless memory or a file failed it before, or standard output at the lines before that of a message that
+  -- was not sent
   pub refused : status ≡ 3 → ((line : List ℕ) × IsRefused call.run line × Says err line) ⊎ ((name : List ℕ) × RefusesJournal call name × Says err (journal_line name))
   pub no_workload : LacksWorkload call.run → IsOneOf (3 ∷ 4 ∷ 6 ∷ []) status
   pub no_schedule : LacksSchedule call.run → IsOneOf (3 ∷ 4 ∷ 6 ∷ 7 ∷ []) status

@@ -1,11 +1,14 @@
 -- Files for which a command cannot be done: docs/FORMATS.md, "The program"
-use Rattle.std.specs.Prelude.{◌≡◌, ℕ, ◌≤◌, List, [], ◌∷◌, ◌++◌, length, Some}
+use Rattle.std.specs.Prelude.{◌≡◌, ℕ, ◌<◌, ◌≤◌, List, [], ◌∷◌, ◌++◌, length, Option, Some}
 use Rattle.roc_base.specs.declared.node.Shard.{Shard}
 use Rattle.roc_lang.specs.Syntax.{Tree}
 use Rattle.roc_lang_parse.specs.Fault.{IsWorkloadText}
 use Rattle.roc_program.specs.Program.{Workload}
 use Rattle.roc_plan.specs.Groups.{Plan}
+use Rattle.roc_epoch.specs.declared.next.Next.{Next}
+use Rattle.roc_epoch.specs.Grown.{IsGrownFrom}
 use Rattle.roc_check.specs.Checked.{IsTextOf, IsPlanOf, IsPlanOfText}
+use Rattle.roc_sched.specs.Schedule.{most_bytes}
 use Rattle.roc_replay.specs.declared.asked.BoundLine.{BoundLine}
 use Rattle.roc_replay.specs.BoundLine.{IsScheduleOf}
 use Rattle.roc_replay.specs.Played.{AsksOnlySent}
@@ -15,40 +18,43 @@ use Rattle.roc_auditor.specs.Verdict.{nodes_of, IsGap}
 use Rattle.roc_cli_files.specs.Held.{most_log_bytes}
 use Rattle.roc_cli_files.specs.NodeNames.{tag_of_bytes}
 use Rattle.roc_cli_nodes.specs.Call.{RunCall}
-use Rattle.roc_cli_nodes.specs.Words.{IsReplay, NamesProgram, NamesWorkload}
-use Rattle.roc_cli.specs.Fit.{AuditAsked, TellLogs}
+use Rattle.roc_cli_nodes.specs.Words.{NamesProgram, NamesWorkload}
+use Rattle.roc_cli.specs.Fit.{ReplayAsked, TellsNext, TellsFollowing, NodesAsked, IsDueNext, AuditAsked, TellLogs}
 
--- the words name a workload that is not acceptable: the named file holds a text in scope, of a program that has no plan
-pub record LacksPlan (call : RunCall) : Type 0 where
-  pub workload : List ℕ
-  pub named : NamesProgram call.words workload
+-- the name holds a text in scope, of a program that has no plan
+pub record TellsNoPlan (content : List ℕ → Option (List ℕ)) (name : List ℕ) : Type 0 where
   pub bytes : List ℕ
-  pub held : call.files.content workload ≡ Some bytes
+  pub held : content name ≡ Some bytes
   pub program : Workload
   pub text : IsTextOf bytes program
   pub planless : (plan : Plan) → IsPlanOf program plan → ⊥
 
+-- the words name a workload that is not acceptable; or one that is to come next, where what is read before is right
+pub data LacksPlan (call : RunCall) : Type 0 where
+  no_plan : (workload : List ℕ) → NamesProgram call.words workload → TellsNoPlan call.files.content workload → LacksPlan call
+  no_next_plan : (name : List ℕ) (plan : Plan) → IsDueNext call name plan → TellsNoPlan call.files.content name → LacksPlan call
+
 -- the words name a workload, and the named file holds bytes that are no workload text, which none is that is too long; or none in scope, where names
--- have to be
+-- have to be. Or they name one to grow to, where what is read before is right, which is none in scope either, or no grown one of the first, or has its tag
+-- where nodes have to tell the two apart
 pub data LacksWorkload (call : RunCall) : Type 0 where
   no_text : (workload bytes : List ℕ) → NamesWorkload call.words workload → call.files.content workload ≡ Some bytes
       → ((tree : Tree) → IsWorkloadText bytes tree → ⊥) → LacksWorkload call
   no_program : (workload bytes : List ℕ) → NamesProgram call.words workload → call.files.content workload ≡ Some bytes
       → ((program : Workload) → IsTextOf bytes program → ⊥) → LacksWorkload call
+  no_next : (name bytes : List ℕ) (plan : Plan) → IsDueNext call name plan → call.files.content name ≡ Some bytes
+      → ((program : Workload) → IsTextOf bytes program → ⊥) → LacksWorkload call
+  no_growth : (name bytes : List ℕ) (plan new : Plan) → IsDueNext call name plan → call.files.content name ≡ Some bytes → IsPlanOfText bytes new
+      → (IsGrownFrom plan.program new.program → ⊥) → LacksWorkload call
+  no_other_tag : (asked : NodesAsked call) (name : List ℕ) (coords : ℕ) (next : Next) → asked.files.next ≡ Some (name, coords) → TellsNext call.files.content name asked.plan coords next
+      → next.tag ≡ tag_of_bytes asked.bytes → LacksWorkload call
 
--- the words ask for a replay; the named files hold a workload that has a plan, and bytes that are no schedule that fits this and asks only
--- for what was sent
-pub record LacksSchedule (call : RunCall) : Type 0 where
-  pub workload : List ℕ
-  pub schedule : List ℕ
-  pub given : IsReplay call.words workload schedule
-  pub bytes : List ℕ
-  pub held : call.files.content workload ≡ Some bytes
-  pub plan : Plan
-  pub planned : IsPlanOfText bytes plan
-  pub text : List ℕ
-  pub scheduled : call.files.content schedule ≡ Some text
-  pub unplayed : (lines : List BoundLine) → IsScheduleOf plan.program text lines → AsksOnlySent plan lines → ⊥
+-- the words ask for a replay, whose workload has a plan; its schedule is too long, or where the workload that is to come next is right, if any, it is none that
+-- fits the last one that there is and asks only for what was sent
+pub data LacksSchedule (call : RunCall) : Type 0 where
+  too_long : (asked : ReplayAsked call) → most_bytes < length asked.text → LacksSchedule call
+  unplayed : (asked : ReplayAsked call) (next : Option Next) → TellsFollowing call.files.content asked.plan asked.growth next
+      → ((lines : List BoundLine) → IsScheduleOf asked.plan next asked.text lines → AsksOnlySent asked.plan next lines → ⊥) → LacksSchedule call
 
 -- the words ask for an audit; behind logs a named file holds bytes that are none, which none is that is too long; or all files hold logs, and a shard's
 -- server has none

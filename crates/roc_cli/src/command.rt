@@ -6,33 +6,30 @@ ghost use Rattle.roc_io.specs.Cause.{HasCause};
 ghost use Rattle.roc_cli_words.specs.Answer.{AreWordsOf};
 ghost use Rattle.roc_cli_words.specs.Commands.{IsWithin, command_of};
 ghost use Rattle.roc_cli_nodes.specs.Call.{run_call, disk_call, LeavesBook};
-ghost use Rattle.roc_cli_nodes.specs.Words.{AreLocalWords, IsReplay, NamesJournal, NamesLog, NamesNodes, needs_nodes};
-ghost use Rattle.roc_cli_files.specs.Held.{HoldsPlan};
+ghost use Rattle.roc_cli_nodes.specs.Words.{AreLocalWords, NamesJournal, NamesLog, NamesNodes, needs_nodes};
 ghost use Rattle.roc_cli.specs.Status.{Answers, IsQuiet, IsUnkept, IsUnlogged};
 ghost use Rattle.roc_cli_files.specs.Fault.{blames_file, blames_sink, blames_link, blames_disk, blames_book, Blames, ReadsBut, fails_by};
 ghost use Rattle.roc_cli_files.specs.Says.{errors};
 ghost use Rattle.roc_cli_nodes.specs.Ends.{precedes_loop, precedes_journal, CountsChildren};
-ghost use Rattle.roc_cli.specs.Inner.Ends.{Ends, WholeEnds, ReplayEnds, fault_of_words};
+ghost use Rattle.roc_cli.specs.Inner.Ends.{Ends, WholeEnds, fault_of_words};
 
 use crate::auditing::audit_files;
 use crate::fit::texts_keep_laws;
 use crate::generated::write_generated;
+use crate::replaying::replay_files;
 use roc_book::Book;
-use roc_check::laws::programs_of_texts_have_names;
-use roc_cli_files::{Fault, MOST_LISTED_BYTES, bytes_of, check_file, plan_of, print_file};
+use roc_cli_files::{Fault, check_file, print_file};
 use roc_cli_nodes::{launch, needs_nodes};
 use roc_cli_words::{Ask, Asked, WordsFault, ask};
 use roc_disk::Disk;
 use roc_io::{Files, Link, Sink, Spawner};
-use roc_plan::Plan;
-use roc_replay::laws::reports_are_read_in_one_way;
-use roc_replay::{Ended, replay};
 use std::alloc::Global;
 
 /// Does what the words behind the program's name ask for, and answers the status with which the program is to end. The commands are those
-/// of `docs/FORMATS.md`, "The program". Files are read in the order of the words, each judged before the next is read; then nodes run over the
-/// link. Of a workload that is not acceptable, every command but `print` writes the one line that says why to `out`, and `audit` writes there why logs
-/// are not explained. Nothing but `err` is told of all else that went wrong, in one line; whether `err` takes it changes no status.
+/// of `docs/FORMATS.md`, "The program". Files are read in the order of the words, each judged before the next is read, and behind them a workload to grow to,
+/// wherever the words have it; only the lines of a schedule are judged behind that. Then nodes run over the link. Of a workload that is not acceptable, every
+/// command but `print` writes the one line that says why to `out`, and `audit` writes there why logs are not explained. Nothing but `err` is told of all else
+/// that went wrong, in one line; whether `err` takes it changes no status.
 ///
 /// The status is 4 where memory runs out, which no clause gives a cause.
 pub fn run<F: Files, S: Sink, E: Sink, L: Link, P: Spawner, D: Disk, B: Book>(
@@ -165,9 +162,11 @@ fn perform_alone<'a, F: Files, S: Sink>(
     ensures content { (name : List ℕ) → F.content files.new name ≡ F.content files.old name }
 {
     match asked.ask {
-        Ask::Replay { workload, schedule } => {
-            replay_files(alloc, workload, schedule, files, out)
-        }
+        Ask::Replay {
+            workload,
+            schedule,
+            growth,
+        } => replay_files(alloc, workload, schedule, growth, files, out),
         Ask::Print { workload } => print_file(alloc, files, workload, out),
         Ask::Check { workload } => check_file(alloc, files, workload, out),
         Ask::Gen {
@@ -180,72 +179,5 @@ fn perform_alone<'a, F: Files, S: Sink>(
             audit_files(alloc, workload, asked.logs.as_slice(), files, out)
         }
         Ask::Serve(_) | Ask::Submit(_) | Ask::Stop { .. } | Ask::Local { .. } => unreachable!(),
-    }
-}
-
-// Replays a schedule under the plan of a workload.
-fn replay_files<'a, F: Files, S: Sink>(
-    alloc: Global,
-    workload: &'a str,
-    schedule: &'a str,
-    files: &mut F,
-    out: &mut S,
-) -> Result<(), Fault<'a>>
-    ensures ends { (words : List (List ℕ)) → IsReplay words workload.entry.now schedule.entry.now
-        → Ends (run_call F.Files S.Sink words files.old files.new out.old out.new) result }
-    ensures failed { ReadsBut (F.failed_names files.old) (F.failed_names files.new) result }
-    ensures file_faults { HasCause (fails_by blames_file result) (F.faults files.old) (F.faults files.new) }
-    ensures sink_faults { HasCause (fails_by blames_sink result) (S.faults out.old) (S.faults out.new) }
-    ensures content { (name : List ℕ) → F.content files.new name ≡ F.content files.old name }
-{
-    match plan_of(alloc, files, workload, out) {
-        Ok(plan) => replay_schedule(alloc, &plan, schedule, files, out),
-        Err(fault) => Err(fault),
-    }
-}
-
-// Replays a schedule under this plan.
-fn replay_schedule<'a, F: Files, S: Sink>(
-    alloc: Global,
-    plan: &Plan,
-    schedule: &'a str,
-    files: &mut F,
-    out: &mut S,
-) -> Result<(), Fault<'a>>
-    ensures ends { (words : List (List ℕ)) (workload : List ℕ) → IsReplay words workload schedule.entry.now → HoldsPlan (F.content files.old) workload plan.now
-        → Ends (run_call F.Files S.Sink words files.old files.new out.old out.new) result }
-    ensures failed { ReadsBut (F.failed_names files.old) (F.failed_names files.new) result }
-    ensures file_faults { HasCause (fails_by blames_file result) (F.faults files.old) (F.faults files.new) }
-    ensures sink_faults { HasCause (fails_by blames_sink result) (S.faults out.old) (S.faults out.new) }
-    ensures content { (name : List ℕ) → F.content files.new name ≡ F.content files.old name }
-{
-    programs_of_texts_have_names();
-    reports_are_read_in_one_way();
-    match bytes_of(alloc, files, schedule, MOST_LISTED_BYTES) {
-        Ok(bytes) => replay_file(alloc, plan, schedule, &bytes, out),
-        Err(fault) => Err(fault),
-    }
-}
-
-// Replays the schedule of these bytes.
-fn replay_file<'a, S: Sink>(
-    alloc: Global,
-    plan: &Plan,
-    name: &'a str,
-    bytes: &[u8],
-    out: &mut S,
-) -> Result<(), Fault<'a>>
-    ensures ends { ReplayEnds plan.now bytes.now name.entry.now (S.taken out.old) (S.taken out.new) result }
-    ensures faults { HasCause (fails_by blames_sink result) (S.faults out.old) (S.faults out.new) }
-{
-    match replay(alloc, plan, bytes, out) {
-        Ended::Done(_) => Ok(()),
-        Ended::Text { line, what } => Err(Fault::At {
-            file: name,
-            line,
-            what: what.as_str(),
-        }),
-        Ended::SinkFault => Err(Fault::Sink),
-        Ended::NoMemory => Err(Fault::Memory),
     }
 }

@@ -3,6 +3,7 @@ ghost use Rattle.roc_cli.specs.Inner.Texts.{TextLaws};
 
 use roc_check::laws::{plans_are_accepted, plans_are_unique, refusals_are_unique};
 use roc_cluster::laws::cluster_files_keep_the_rules;
+use roc_epoch::laws::growth_is_one;
 use roc_lang_parse::laws::{text_has_no_fault, tree_is_unique};
 use roc_law_audit::laws::honest_verdicts_are_yes;
 use roc_log::laws::{logs_are_unique, texts_are_right_or_wrong as logs_are_right_or_wrong};
@@ -20,6 +21,7 @@ pub(crate) fn texts_keep_laws()
     refusals_are_unique();
     sent_schedules_have_no_fault();
     sent_schedules_are_played();
+    growth_is_one();
     cluster_files_keep_the_rules();
     lines_are_unique();
     texts_are_right_or_wrong();

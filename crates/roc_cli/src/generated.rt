@@ -115,7 +115,7 @@ fn summary_of_plan(
     lines_are_unique();
     texts_are_right_or_wrong();
     let mut sink = Unseen;
-    match replay(alloc, plan, schedule, &mut sink) {
+    match replay(alloc, plan, None, schedule, &mut sink) {
         Ended::Done(summary) => summary_text(alloc, summary),
         Ended::NoMemory => Err(NoMemory),
         Ended::Text { .. } => unreachable!(),

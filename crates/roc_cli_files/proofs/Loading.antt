@@ -4,15 +4,18 @@ use Rattle.std.proofs.Math.Path.{fun_ext}
 use Rattle.std.proofs.lemmas.Bool.{leb-false, leb-true, false≢true}
 use Rattle.roc_base.specs.declared.node.Shard.{Shard}
 use Rattle.roc_io.specs.declared.link.Addr.{Addr}
+use Rattle.roc_program.specs.Program.{Workload}
 use Rattle.roc_plan.specs.Groups.{Plan}
-use Rattle.roc_check.specs.Checked.{IsPlanOfText}
+use Rattle.roc_epoch.specs.declared.next.Next.{Next}
+use Rattle.roc_epoch.specs.Files.{last_plan}
 use Rattle.roc_cluster.specs.File.{IsClusterFile}
 use Rattle.roc_cli_files.specs.declared.fault.Fault.{Fault}
 use Rattle.roc_cli_files.specs.declared.nodes.NodeNames.{NodeNames}
 use Rattle.roc_cli_files.specs.declared.nodes.Nodes.{Nodes}
-use Rattle.roc_cli_files.specs.Held.{NodeFiles, Holds, HoldsPlan, HoldsCluster, HoldsListed}
+use Rattle.roc_cli_files.specs.Held.{NodeFiles, Holds, HoldsCluster, HoldsListed}
 use Rattle.roc_cli_files.specs.Input.{HoldsWithin}
-use Rattle.roc_cli_files.specs.NodeNames.{tag_of_bytes, files_named, HoldsAll, NodesFail, by_shard}
+use Rattle.roc_cli_files.specs.NodeNames.{files_named, HoldLater, HoldsGrowth, HoldsAll, NodesFail, by_shard}
+use Rattle.roc_cli_files.specs.Inner.First.{HoldsFirst}
 use Rattle.roc_cli_files.specs.Inner.Shards.{lacks_shard, IsJudgedShard}
 
 -- a shard that is not lacked is there
@@ -49,24 +52,67 @@ pub in_any_case : {A E : Type 0} (result : Result A E) (P : Type 0) → P → If
 in_any_case (Ok value) P h = h
 in_any_case (Err fault) P h = tt
 
-module _ (content : List ℕ → Option (List ℕ)) (names : NodeNames) (nodes : Nodes)
-    (clustered : HoldsCluster content names.cluster.now nodes.plan.program.shards nodes.cluster) (listed : HoldsListed content (files_named names).requests nodes.plan.program nodes.requests.items) where
+-- what the files up to the requests hold, before and behind such a step
+pub first_still : (later content : List ℕ → Option (List ℕ)) (files : NodeFiles) (nodes : Nodes) → ((name : List ℕ) → later name ≡ content name)
+    → HoldsFirst content files nodes → HoldsFirst later files nodes
+first_still later content files nodes same h = subst (λ (c : List ℕ → Option (List ℕ)). HoldsFirst c files nodes) (sym (fun_ext same)) h
+
+pub first_behind : (later content : List ℕ → Option (List ℕ)) (files : NodeFiles) (result : Result Nodes Fault) → ((name : List ℕ) → later name ≡ content name)
+    → IfOk result (HoldsFirst later files) → IfOk result (HoldsFirst content files)
+first_behind later content files result same h = subst (λ (c : List ℕ → Option (List ℕ)). IfOk result (HoldsFirst c files)) (fun_ext same) h
+
+-- what the workload to grow to holds behind such a step
+pub growth_still : (later content : List ℕ → Option (List ℕ)) (growth : Option (List ℕ × ℕ)) (program : Workload) (tag : List ℕ) (next : Option Next)
+    → ((name : List ℕ) → later name ≡ content name) → HoldsGrowth content growth program tag next → HoldsGrowth later growth program tag next
+growth_still later content growth program tag next same h = subst (λ (c : List ℕ → Option (List ℕ)). HoldsGrowth c growth program tag next) (sym (fun_ext same)) h
+
+-- standard output took nothing, if it took nothing before
+pub untouched_still : {A : Type 0} (old middle new : Option (List ℕ)) (result : Result A Fault) → middle ≡ old → IfOk result (λ _. new ≡ middle) → IfOk result (λ _. new ≡ old)
+untouched_still old middle new result e h = subst (λ (o : Option (List ℕ)). IfOk result (λ _. new ≡ o)) e h
+
+module _ (content : List ℕ → Option (List ℕ)) (names : NodeNames) (nodes : Nodes) (first : HoldsFirst content (files_named names) nodes)
+    (grown : HoldsGrowth content (files_named names).next nodes.plan.program nodes.tag nodes.next)
+    (listed : HoldsListed content (files_named names).later (last_plan nodes.plan nodes.next).program nodes.later.items) where
+  behind : HoldLater content (files_named names) nodes.plan nodes.tag nodes.next nodes.later.items
+  behind = record { of_next = grown; of_later = listed }
+
   -- all is held, where the workload has the shard
-  pub all_held : (bytes : List ℕ) (result : Result Nodes Fault) → Holds content names.workload.now bytes → IsPlanOfText bytes nodes.plan → nodes.tag ≡ tag_of_bytes bytes
-      → IsJudgedShard names.shard nodes result → IfOk result (HoldsAll content (files_named names))
-  all_held bytes (Ok kept) held planned tagged (e, there) =
-      subst (HoldsAll content (files_named names)) (sym e)
-      (bytes, record { of_workload = held; planned = planned; has_shard = shard_is_there names.shard nodes.plan there; of_cluster = clustered; of_requests = listed }, tagged)
-  all_held bytes (Err fault) held planned tagged h = tt
+  pub all_held : (result : Result Nodes Fault) → IsJudgedShard names.shard nodes result → IfOk result (HoldsAll content (files_named names))
+  all_held (Ok kept) (e, there) =
+      subst (HoldsAll content (files_named names)) (sym e) (
+        first.of_workload.0.bytes,
+        record {
+          of_workload = first.of_workload.0.held;
+          planned = first.of_workload.0.is;
+          has_shard = shard_is_there names.shard nodes.plan there;
+          of_cluster = first.of_cluster;
+          of_requests = first.of_requests;
+        },
+        first.of_workload.1,
+        behind,
+      )
+  all_held (Err fault) h = tt
 
   -- why there is nothing, where it lacks the shard
-  pub shard_is_lacking : (out : Option (List ℕ)) (result : Result Nodes Fault) → HoldsPlan content names.workload.now nodes.plan → IsJudgedShard names.shard nodes result
-      → IfErr result (NodesFail content (files_named names) out out)
-  shard_is_lacking out (Ok kept) planned h = tt
-  shard_is_lacking out (Err fault) planned (e, lacks) =
+  pub shard_is_lacking : (out : Option (List ℕ)) (result : Result Nodes Fault) → IsJudgedShard names.shard nodes result → IfErr result (NodesFail content (files_named names) out out)
+  shard_is_lacking out (Ok kept) h = tt
+  shard_is_lacking out (Err fault) (e, lacks) =
       let past = shard_is_past names.shard nodes.plan.program.shards lacks in
       subst (NodesFail content (files_named names) out out) (sym e)
-      (by_shard (record { plan = nodes.plan; cluster = nodes.cluster; requests = nodes.requests.items; of_workload = planned; of_cluster = clustered; of_requests = listed; number = past.0; asked = past.1; past = past.2 }) refl)
+      (by_shard (record {
+        plan = nodes.plan;
+        cluster = nodes.cluster;
+        requests = nodes.requests.items;
+        of_workload = first.of_workload.0;
+        of_cluster = first.of_cluster;
+        of_requests = first.of_requests;
+        next = nodes.next;
+        later = nodes.later.items;
+        of_growth = subst (λ (t : List ℕ). HoldLater content (files_named names) nodes.plan t nodes.next nodes.later.items) first.of_workload.1 behind;
+        number = past.0;
+        asked = past.1;
+        past = past.2;
+      }) refl)
 
 -- what a file holds behind a step that left all as it was
 pub held_still : (later content : List ℕ → Option (List ℕ)) (name bytes : List ℕ) → ((n : List ℕ) → later n ≡ content n) → Holds content name bytes → Holds later name bytes

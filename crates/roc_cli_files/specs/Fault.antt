@@ -4,11 +4,20 @@ use Rattle.roc_io.specs.Observed.{Adds}
 use Rattle.roc_lang_scope.specs.FaultText.{what_text}
 use Rattle.roc_cluster.specs.FaultText.{fault_text as cluster_text}
 use Rattle.roc_log.specs.FaultText.{what_text as log_text}
+use Rattle.roc_epoch.specs.declared.fault.GrowthFault.{GrowthFault}
+use Rattle.roc_epoch.specs.declared.fault.GrowthFault.TheVariants.{Shards, Table, Init, Proc}
 use Rattle.roc_cli_words.specs.FaultText.{value_text}
 use Rattle.roc_cli_files.specs.declared.fault.Fault.{Fault}
-use Rattle.roc_cli_files.specs.declared.fault.Fault.TheVariants.{Refused, Value, NoShard, TooLong, At, Scope, Cluster, Journal, Log, Gap, Rejected}
+use Rattle.roc_cli_files.specs.declared.fault.Fault.TheVariants.{Refused, Value, NoShard, TooLong, At, Scope, Cluster, Growth, Same, Journal, Log, Gap, Rejected}
 use Rattle.roc_cli_files.specs.declared.fault.Fault.TheVariants.{Memory, Unanswered, File, Sink, Link, Child, Disk, Full, Refuted, Book}
-use Rattle.roc_cli_files.specs.Says.{word_line, long_line, text_line, fault_line, journal_line, gap_line, file_line, child_line, disk_line, full_line, book_line, Errors, Says}
+use Rattle.roc_cli_files.specs.Says.{word_line, long_line, text_line, fault_line, growth_line, journal_line, gap_line, file_line, child_line, disk_line, full_line, book_line, Errors, Says}
+
+-- what is wrong with a workload that is no grown one
+abbrev pub growth_word : GrowthFault → List ℕ
+growth_word Shards = codes "shards"
+growth_word Table = codes "table"
+growth_word Init = codes "init"
+growth_word Proc = codes "proc"
 
 -- the line on standard error; there is none where the workload is not acceptable, requests are unanswered, or logs are not explained
 abbrev pub line_of : Fault → List ℕ
@@ -19,6 +28,8 @@ line_of (TooLong file) = long_line file.now
 line_of (At file line what) = fault_line file.now line what.now
 line_of (Scope file line what) = fault_line file.now line (what_text what)
 line_of (Cluster file fault) = text_line file.now (cluster_text fault)
+line_of (Growth file fault) = growth_line file.now (growth_word fault)
+line_of (Same file) = growth_line file.now (codes "same")
 line_of (Journal file) = journal_line file.now
 line_of (Log file line what) = fault_line file.now line (log_text what)
 line_of (Gap shard) = gap_line shard.0
@@ -45,6 +56,8 @@ IsTold Unanswered status err = status ≡ 5
 IsTold NoShard status err = EndsWith 2 (line_of NoShard) status err
 IsTold (Refused text) status err = EndsWith 2 (line_of (Refused text)) status err
 IsTold (Value name) status err = EndsWith 2 (line_of (Value name)) status err
+IsTold (Growth file fault) status err = EndsWith 3 (line_of (Growth file fault)) status err
+IsTold (Same file) status err = EndsWith 3 (line_of (Same file)) status err
 IsTold (Journal file) status err = EndsWith 3 (line_of (Journal file)) status err
 IsTold Memory status err = EndsWith 4 (line_of Memory) status err
 IsTold (File file) status err = EndsWith 6 (line_of (File file)) status err

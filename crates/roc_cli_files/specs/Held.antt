@@ -65,11 +65,14 @@ pub record HoldsRejected (content : List ℕ → Option (List ℕ)) (name : List
 
 -- ---- the files of a command with nodes
 
--- the files of a command with nodes, and the shard that it serves
+-- the files of a command with nodes, among them the workload to grow to, with how many coordinators there are, and the requests to submit
+-- then; and the shard that it serves
 pub record NodeFiles : Type 0 where
   pub workload : List ℕ
   pub cluster : List ℕ
   pub requests : Option (List ℕ)
+  pub next : Option (List ℕ × ℕ)
+  pub later : Option (List ℕ)
   pub shard : Option ℕ
 
 -- the name holds a cluster file for so many shards, of this cluster, and not too many bytes
@@ -118,19 +121,6 @@ pub record HoldNodes (content : List ℕ → Option (List ℕ)) (files : NodeFil
   pub has_shard : HasShard files plan
   pub of_cluster : HoldsCluster content files.cluster plan.program.shards cluster
   pub of_requests : HoldsListed content files.requests plan.program requests
-
--- the files of a command with nodes hold a workload with this plan, this cluster and these requests, but the shard that is to be served is not
--- one of the workload
-pub record LacksShard (content : List ℕ → Option (List ℕ)) (files : NodeFiles) : Type 0 where
-  pub plan : Plan
-  pub cluster : List Addr
-  pub requests : List Request
-  pub of_workload : HoldsPlan content files.workload plan
-  pub of_cluster : HoldsCluster content files.cluster plan.program.shards cluster
-  pub of_requests : HoldsListed content files.requests plan.program requests
-  pub number : ℕ
-  pub asked : files.shard ≡ Some number
-  pub past : plan.program.shards ≤ number
 
 -- ---- the logs of nodes
 

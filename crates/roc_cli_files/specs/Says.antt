@@ -32,6 +32,10 @@ long_line file = file ++ codes ": limit" ++ 10 ∷ []
 abbrev pub journal_line : List ℕ → List ℕ
 journal_line file = file ++ codes ": journal" ++ 10 ∷ []
 
+-- `FILE: growth WORD`, where a workload is no grown one, or nodes could not tell it from the one before it
+abbrev pub growth_line : (file word : List ℕ) → List ℕ
+growth_line file word = file ++ codes ": growth " ++ word ++ 10 ∷ []
+
 -- `LOGS: gap N`, where no log is of the server of a shard
 abbrev pub gap_line : (shard : ℕ) → List ℕ
 gap_line shard = codes "LOGS: gap " ++ decimal shard ++ 10 ∷ []

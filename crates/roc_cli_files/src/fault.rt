@@ -1,12 +1,13 @@
 //! Why the program ends without having done what it was asked: its status, and its line on standard error.
 ghost use Rattle.std.specs.Prelude.{◌≡◌, ◌<◌, Some, None, IfOk, string_bytes};
 ghost use Rattle.std.specs.List.{flat_map};
-ghost use Rattle.roc_cli_files.specs.Fault.{EndsWith, IsTold, line_of};
-ghost use Rattle.roc_cli_files.specs.Says.{errors};
+ghost use Rattle.roc_cli_files.specs.Fault.{EndsWith, IsTold, growth_word, line_of};
+ghost use Rattle.roc_cli_files.specs.Says.{errors, growth_line};
 
 use roc_base::{NoMemory, Shard};
 use roc_cli_words::ValueName;
 use roc_cluster::ClusterFault;
+use roc_epoch::GrowthFault;
 use roc_io::{Sink, Written, write_all};
 use roc_lang_scope::ScopeWhat;
 use roc_log::What as LogWhat;
@@ -40,6 +41,13 @@ pub enum Fault<'a> {
         file: &'a str,
         fault: ClusterFault,
     },
+    /// The workload of a file is no grown one of the workload before it.
+    Growth {
+        file: &'a str,
+        fault: GrowthFault,
+    },
+    /// The workload of a file has the tag of the workload before it, by which nodes could not tell the two apart.
+    Same(&'a str),
     /// A journal is none whose messages the server of that shard takes.
     Journal(&'a str),
     /// A file is no log, or none beside the logs before it: the line, and what is wrong there.
@@ -97,6 +105,8 @@ impl Fault<'_> {
             Fault::At { file, line, what } => tell_line(alloc, err, file, line, what),
             Fault::Scope { file, line, what } => tell_misuse(alloc, err, file, line, what),
             Fault::Cluster { file, fault } => tell_cluster(alloc, err, file, fault),
+            Fault::Growth { file, fault } => tell_growth(err, file, growth_word(fault)),
+            Fault::Same(file) => tell_growth(err, file, "same"),
             Fault::Journal(file) => says(err, &[file.as_bytes(), b": journal\n"], 3),
             Fault::Log { file, line, what } => tell_log(alloc, err, file, line, what),
             Fault::Gap(shard) => tell_gap(alloc, err, shard),
@@ -118,6 +128,30 @@ impl Fault<'_> {
             Fault::Refuted => 12,
             Fault::Book(file) => says(err, &[b"log ", file.as_bytes(), b"\n"], 13),
         }
+    }
+}
+
+// Writes the line of a workload that another one may not grow to, and answers its status.
+fn tell_growth<'a, E: Sink>(err: &mut E, file: &'a str, word: &'a str) -> u8
+    ensures is { result ≡ 3 }
+    ensures told { EndsWith 3 (growth_line file.now word.now) result (errors E.Sink err.old err.new) }
+{
+    says(
+        err,
+        &[file.as_bytes(), b": growth ", word.as_bytes(), b"\n"],
+        3,
+    )
+}
+
+// What is wrong with a workload that is no grown one.
+fn growth_word(fault: GrowthFault) -> &'static str
+    ensures { result.now ≡ growth_word fault }
+{
+    match fault {
+        GrowthFault::Shards => "shards",
+        GrowthFault::Table => "table",
+        GrowthFault::Init => "init",
+        GrowthFault::Proc => "proc",
     }
 }
 

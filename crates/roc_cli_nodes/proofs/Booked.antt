@@ -1,4 +1,4 @@
--- What a node leaves of its book
+-- What a node leaves of its book, and that one which goes over has none
 use Rattle.std.proofs.Common.{◌≡◌, inl, inr, ℕ, Bool, true, false, List, [], Option, Some, None, refl, sym, ap, subst, ◌∙◌}
 use Rattle.std.specs.Prelude.{unwrap_or, is_some}
 use Rattle.std.proofs.lemmas.Bool.{false≢true}
@@ -13,7 +13,7 @@ use Rattle.roc_node_serve.specs.declared.ends.ServeEnd.{ServeEnd}
 use Rattle.roc_node_serve.specs.declared.ends.ServeEnd.TheVariants as serve_end
 use Rattle.roc_node_serve.specs.Keeping.{ServesWith}
 use Rattle.roc_node_serve.specs.Logging.{KeepsLog}
-use Rattle.roc_node_serve.specs.ServeEnd.{Reached, Serves, unbegun, refused, unopened, unbegan, unbound, serve_refused}
+use Rattle.roc_node_serve.specs.ServeEnd.{is_end_of_journal, serve_book_failed, Reached, Serves, unbegun, refused, unopened, unbegan, unbound, serve_refused}
 use Rattle.roc_node_serve.specs.ServerRun.{ServerNodeState}
 use Rattle.roc_node_submit.specs.CoordRun.{CoordNodeState, is_answered}
 use Rattle.roc_node_submit.specs.SubmitEnd as submits
@@ -21,6 +21,13 @@ use Rattle.roc_node_submit.specs.SubmitEnd.{TurnsCall, turns_of, end_of, Submits
 use Rattle.roc_node_submit.specs.declared.ends.SubmitEnd.{SubmitEnd}
 use Rattle.roc_node_submit.specs.declared.ends.SubmitEnd.TheVariants as submit_end
 use Rattle.roc_sched.specs.declared.line.Request.{Request}
+use Rattle.roc_grown_node.specs.Setting.{GrownNodeSetting}
+use Rattle.roc_grown_serve.specs.GrownRun.{GrownNodeState}
+use Rattle.roc_grown_serve.specs.ServesGrowing as serving
+use Rattle.roc_grown_serve.specs.ServesGrowing.{ServesGrowing}
+use Rattle.roc_grown_submit.specs.GrownCoordRun.{as_plain}
+use Rattle.roc_grown_submit.specs.GrownEnd as submitting
+use Rattle.roc_grown_submit.specs.GrownEnd.{SubmitsGrowing, BindsAndSubmitsGrowing}
 use Rattle.roc_cli_nodes.specs.Call.{LeavesBook}
 
 -- a book that failed was named
@@ -104,3 +111,34 @@ bound_log S number requests turns log call book _ _ e = absurd (false≢true e)
 pub submitted_log : (S : NodeSetting) (number : ℕ) (requests : List Request) (turns : ℕ) (log : Option (List ℕ)) (call : NodeCall) (book : BookCall)
     → BindsAndSubmits S number requests turns log call book submit_end.BookFault → log ≡ Some (unwrap_or log [])
 submitted_log S number requests turns log call book h = named_log log (bound_log S number requests turns log call book submit_end.BookFault h refl)
+
+-- ---- nodes that go over
+
+-- they end by no journal and by no log
+grown_unkept : (S : GrownNodeSetting) (first : GrownNodeState) (shard : Shard) (own : Addr) (turns : ℕ) (counts : Bool) (call : NodeCall) (end : ServeEnd)
+    → ServesGrowing S first shard own turns counts call end → (is_end_of_journal end ≡ false) × (serve_book_failed end ≡ false)
+grown_unkept S first shard own turns counts call _ (serving.unbound end (inl is) h) = (ap is_end_of_journal is, ap serve_book_failed is)
+grown_unkept S first shard own turns counts call _ (serving.unbound end (inr is) h) = (ap is_end_of_journal is, ap serve_book_failed is)
+grown_unkept S first shard own turns counts call _ (serving.unserved bound moves adds) = (refl, refl)
+grown_unkept S first shard own turns counts call _ (serving.cut_off events node bound runs goes few greeted) = (refl, refl)
+grown_unkept S first shard own turns counts call _ (serving.wanted events node last bound runs few greeted) = (refl, refl)
+grown_unkept S first shard own turns counts call _ (serving.untold events node bound runs past adds) = (refl, refl)
+grown_unkept S first shard own turns counts call _ (serving.done events node bound runs past adds) = (refl, refl)
+
+pub no_journal_grown : (S : GrownNodeSetting) (first : GrownNodeState) (shard : Shard) (own : Addr) (turns : ℕ) (counts : Bool) (call : NodeCall) (end : ServeEnd)
+    → ServesGrowing S first shard own turns counts call end → is_end_of_journal end ≡ true → ⊥
+no_journal_grown S first shard own turns counts call end h e = let plain = grown_unkept S first shard own turns counts call end h in false≢true (sym plain.0 ∙ e)
+
+pub no_log_grown : (S : GrownNodeSetting) (first : GrownNodeState) (shard : Shard) (own : Addr) (turns : ℕ) (counts : Bool) (call : NodeCall)
+    → ServesGrowing S first shard own turns counts call serve_end.BookFault → ⊥
+no_log_grown S first shard own turns counts call h = let plain = grown_unkept S first shard own turns counts call serve_end.BookFault h in false≢true (sym plain.1)
+
+grown_turns_unlogged : (S : GrownNodeSetting) (number : ℕ) (requests later : List Request) (turns : ℕ) (call : TurnsCall) (end : SubmitEnd) → SubmitsGrowing S number requests later turns call end
+    → submit_book_failed end ≡ false
+grown_turns_unlogged S number requests later turns call _ (submitting.over events node half end is run past each moves adds) = ap submit_book_failed is ∙ ends_without_book (as_plain (submitting.grown_half S node half))
+grown_turns_unlogged S number requests later turns call _ (submitting.cut_off events node run goes few moves adds) = refl
+grown_turns_unlogged S number requests later turns call _ _ = refl
+
+pub no_log_grown_submit : (S : GrownNodeSetting) (number : ℕ) (requests later : List Request) (turns : ℕ) (call : NodeCall)
+    → BindsAndSubmitsGrowing S number requests later turns call submit_end.BookFault → ⊥
+no_log_grown_submit S number requests later turns call (submitting.bound end adds h) = false≢true (sym (grown_turns_unlogged S number requests later turns (turns_of call) submit_end.BookFault h))

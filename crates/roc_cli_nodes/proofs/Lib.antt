@@ -1,4 +1,5 @@
 pub mod Naming
+pub mod Telling
 pub mod Looping
 pub mod Named
 mod Reading

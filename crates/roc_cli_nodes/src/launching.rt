@@ -33,7 +33,8 @@ pub fn needs_nodes<'a>(asked: Asked<'a>) -> bool
     }
 }
 
-/// Runs a command with nodes: reads its files in the order of the words, each judged before the next is read, and then runs its loop over the link.
+/// Runs a command with nodes: reads its files in the order of the words, each judged before the next is read, those of growth last, and then runs its loop over
+/// the link: that of nodes which may go over to a grown workload, where one is named.
 ///
 /// Where the files do not hold what the command needs, the fault is that of [`nodes_of`](roc_cli_files::nodes_of), and neither the link nor a child was
 /// used. Once they were read, `Unanswered` says that all turns were taken and a request has no reply, `Link` that the link could not be bound or a receive

@@ -1,25 +1,30 @@
 //! Each other command with nodes, once its words are known.
-ghost use Rattle.std.specs.Prelude.{◌≡◌, ◌≤◌, ℕ, List, length, None, false, IsTrue};
+ghost use Rattle.std.specs.Prelude.{◌≡◌, ◌≤◌, ℕ, List, length, None, IfSome, false, IsTrue};
 ghost use Rattle.roc_base.specs.declared.node.Node.TheVariants.{Coord as Coordinator};
 ghost use Rattle.roc_book.specs.Call.{book_call};
 ghost use Rattle.roc_io.specs.Call.{children_call, link_call, sink_call};
 ghost use Rattle.roc_io.specs.Cause.{HasCause};
-ghost use Rattle.roc_cli_words.specs.Commands.{submit_command_of, stop, local};
+ghost use Rattle.roc_cli_words.specs.Commands.{GrowsAlone, growth_of, later_of, submit_command_of, stop, local};
 ghost use Rattle.roc_cli_words.specs.Answer.{AreWordsOf};
+ghost use Rattle.roc_epoch.specs.Grown.{IsGrownFrom};
 ghost use Rattle.roc_node.specs.NodeEvent.{node_setting};
+ghost use Rattle.roc_grown_node.specs.Setting.{grown_node_setting};
 ghost use Rattle.roc_node_submit.specs.SubmitEnd.{submit_link_failed, submit_sink_failed, submit_book_failed};
 ghost use Rattle.roc_cli_nodes.specs.Call.{run_call, LeavesBook};
 ghost use Rattle.roc_cli_nodes.specs.NodeEnds.{end_of_submit};
 ghost use Rattle.roc_cli_nodes.specs.Nodes.{AreSubmitted, AreStopped};
+ghost use Rattle.roc_cli_nodes.specs.Words.{later_to_submit, next_to_submit};
 ghost use Rattle.roc_cli_files.specs.Fault.{blames_file, blames_sink, blames_link, blames_disk, blames_book, fails_by, ReadsBut};
 ghost use Rattle.roc_cli_nodes.specs.Ends.{precedes_loop, LaunchEnds, LoopEnded, CountsChildren};
-ghost use Rattle.roc_cli_nodes.specs.Inner.Running.{SubmitsAs, StopsAs, LocalLaunched, LocalLoopEnded, named, no_child};
+ghost use Rattle.roc_cli_nodes.specs.Inner.Running.{ByNext, SubmitsAs, SubmitsGrowingAs, StopsAs, LocalLaunched, LocalLoopEnded, named, no_child};
 ghost use Rattle.roc_node_local.specs.Local.{local_ask};
 
 use crate::serving::name_of;
 use roc_book::Book;
 use roc_cli_files::{Fault, NodeNames, Nodes, nodes_of};
-use roc_cli_words::Submitting;
+use roc_cli_words::{Growth, Later, Submitting};
+use roc_epoch::Next;
+use roc_grown_submit::submit_growing;
 use roc_io::{Files, Link, Sink, Spawner};
 use roc_node_local::{LocalEnd, StopEnd, run_local, send_stops};
 use roc_node_submit::{SubmitEnd, submit_all};
@@ -34,7 +39,8 @@ pub(crate) fn submit_files<'a, F: Files, S: Sink, L: Link, B: Book>(
     link: &mut L,
     book: &mut B,
 ) -> Result<(), Fault<'a>>
-    requires { asked.coord ≤ 15 }
+    requires coord { asked.coord ≤ 15 }
+    requires alone { GrowsAlone None (named asked.log) (later_of asked.growth) }
     ensures ends { (words : List (List ℕ)) → AreWordsOf words (submit_command_of asked.entry)
         → LaunchEnds (run_call F.Files S.Sink words files.old files.new out.old out.new)
         (AreSubmitted (run_call F.Files S.Sink words files.old files.new out.old out.new) (link_call L.Link link.old link.new)
@@ -54,6 +60,8 @@ pub(crate) fn submit_files<'a, F: Files, S: Sink, L: Link, B: Book>(
         workload: asked.workload,
         cluster: asked.cluster,
         requests: Some(asked.requests),
+        next: next_of(asked.growth),
+        later: requests_behind(asked.growth),
         shard: None,
     };
     match nodes_of(alloc, names, files, out) {
@@ -62,8 +70,99 @@ pub(crate) fn submit_files<'a, F: Files, S: Sink, L: Link, B: Book>(
     }
 }
 
+// The workload to grow to of a coordinator, which asks for no count of coordinators.
+fn next_of<'a>(growth: Option<Later<'a>>) -> Option<Growth<'a>>
+    ensures { growth_of result ≡ next_to_submit (later_of growth.entry) }
+{
+    match growth {
+        Some(growth) => Some(Growth {
+            workload: growth.workload,
+            coords: 16,
+        }),
+        None => None,
+    }
+}
+
+// The requests to submit then.
+fn requests_behind<'a>(growth: Option<Later<'a>>) -> Option<&'a str>
+    ensures { named result ≡ later_to_submit (later_of growth.entry) }
+{
+    match growth {
+        Some(growth) => Some(growth.requests),
+        None => None,
+    }
+}
+
 // The same, once the files were read.
 fn submit_nodes<'a, S: Sink, L: Link, B: Book>(
+    alloc: Global,
+    nodes: &Nodes,
+    asked: Submitting<'a>,
+    out: &mut S,
+    link: &mut L,
+    book: &mut B,
+) -> Result<(), Fault<'a>>
+    requires cluster { length nodes.now.cluster ≡ nodes.now.plan.program.shards }
+    requires coord { asked.coord ≤ 15 }
+    requires grown { IfSome nodes.now.next (λ next. IsGrownFrom nodes.now.plan.program next.plan.program) }
+    ensures ends { LoopEnded (ByNext nodes.now.next (SubmitsAs (node_setting nodes.now.plan nodes.now.tag (Coordinator asked.entry.coord) nodes.now.cluster) asked.entry.coord
+        nodes.now.requests.items asked.entry.turns (named asked.entry.log)
+        (record { link = link_call L.Link link.old link.new; out = sink_call S.Sink out.old out.new }) (book_call B.Book book.old book.new))
+        (λ next. SubmitsGrowingAs (grown_node_setting nodes.now.plan nodes.now.tag next (Coordinator asked.entry.coord) nodes.now.cluster) asked.entry.coord nodes.now.requests.items
+        nodes.now.later.items asked.entry.turns (record { link = link_call L.Link link.old link.new; out = sink_call S.Sink out.old out.new }))) no_child result }
+    ensures files { fails_by blames_file result ≡ false }
+    ensures late { fails_by precedes_loop result ≡ false }
+    ensures unlogged { named asked.entry.log ≡ None → LeavesBook (book_call B.Book book.old book.new) }
+    ensures sink_faults { HasCause (fails_by blames_sink result) (S.faults out.old) (S.faults out.new) }
+    ensures link_faults { HasCause (fails_by blames_link result) (L.faults link.old) (L.faults link.new) }
+    ensures book_faults { HasCause (fails_by blames_book result) (B.faults book.old) (B.faults book.new) }
+    ensures no_disk { fails_by blames_disk result ≡ false }
+{
+    match nodes.next.as_ref() {
+        Some(next) => submit_grown(alloc, nodes, next, asked, out, link),
+        None => submit_plain(alloc, nodes, asked, out, link, book),
+    }
+}
+
+// The same of a coordinator that goes over to a grown workload, and keeps no log.
+fn submit_grown<'a, S: Sink, L: Link>(
+    alloc: Global,
+    nodes: &Nodes,
+    next: &Next,
+    asked: Submitting<'a>,
+    out: &mut S,
+    link: &mut L,
+) -> Result<(), Fault<'a>>
+    requires cluster { length nodes.now.cluster ≡ nodes.now.plan.program.shards }
+    requires coord { asked.coord ≤ 15 }
+    requires grown { IsGrownFrom nodes.now.plan.program next.now.plan.program }
+    ensures ends { LoopEnded (SubmitsGrowingAs (grown_node_setting nodes.now.plan nodes.now.tag next.now (Coordinator asked.entry.coord) nodes.now.cluster) asked.entry.coord
+        nodes.now.requests.items nodes.now.later.items asked.entry.turns (record { link = link_call L.Link link.old link.new; out = sink_call S.Sink out.old out.new })) no_child result }
+    ensures files { fails_by blames_file result ≡ false }
+    ensures late { fails_by precedes_loop result ≡ false }
+    ensures sink_faults { HasCause (fails_by blames_sink result) (S.faults out.old) (S.faults out.new) }
+    ensures link_faults { HasCause (fails_by blames_link result) (L.faults link.old) (L.faults link.new) }
+    ensures no_disk { fails_by blames_disk result ≡ false }
+    ensures no_book { fails_by blames_book result ≡ false }
+{
+    let end = submit_growing(
+        alloc,
+        &nodes.plan,
+        nodes.tag,
+        next,
+        asked.coord,
+        &nodes.cluster,
+        &nodes.requests,
+        &nodes.later,
+        link,
+        asked.turns,
+        out,
+    );
+    submission_told(end, "")
+}
+
+// The same of one that does not.
+fn submit_plain<'a, S: Sink, L: Link, B: Book>(
     alloc: Global,
     nodes: &Nodes,
     asked: Submitting<'a>,
@@ -145,6 +244,8 @@ pub(crate) fn stop_files<'a, F: Files, S: Sink, L: Link>(
         workload,
         cluster,
         requests: None,
+        next: None,
+        later: None,
         shard: None,
     };
     match nodes_of(alloc, names, files, out) {
@@ -200,6 +301,8 @@ pub(crate) fn local_files<'a, F: Files, S: Sink, L: Link, P: Spawner>(
         workload,
         cluster,
         requests: Some(listed),
+        next: None,
+        later: None,
         shard: None,
     };
     match nodes_of(alloc, names, files, out) {

@@ -5,21 +5,24 @@ ghost use Rattle.roc_book.specs.Call.{book_call};
 ghost use Rattle.roc_io.specs.declared.link.Addr.{Addr};
 ghost use Rattle.roc_io.specs.Call.{link_call, sink_call};
 ghost use Rattle.roc_io.specs.Cause.{HasCause};
-ghost use Rattle.roc_cli_words.specs.Commands.{serve_command_of};
+ghost use Rattle.roc_cli_words.specs.Commands.{GrowsAlone, growth_of, serve_command_of};
 ghost use Rattle.roc_cli_words.specs.Answer.{AreWordsOf};
 ghost use Rattle.roc_node.specs.NodeEvent.{node_setting};
+ghost use Rattle.roc_grown_node.specs.Setting.{grown_node_setting};
 ghost use Rattle.roc_node_serve.specs.ServeEnd.{serve_refused, serve_link_failed, serve_sink_failed, serve_disk_failed, serve_book_failed};
 ghost use Rattle.roc_cli_files.specs.Fault.{blames_file, blames_sink, blames_link, blames_disk, blames_book, fails_by, ReadsBut};
 ghost use Rattle.roc_cli_nodes.specs.Call.{run_call, disk_call, LeavesBook};
 ghost use Rattle.roc_cli_nodes.specs.NodeEnds.{end_of_serve};
 ghost use Rattle.roc_cli_nodes.specs.Nodes.{IsServed};
 ghost use Rattle.roc_cli_nodes.specs.Ends.{precedes_loop, precedes_journal, LaunchEnds, LoopEnded};
-ghost use Rattle.roc_cli_nodes.specs.Inner.Running.{ServesAs, named, no_child};
+ghost use Rattle.roc_cli_nodes.specs.Inner.Running.{ByNext, ServesAs, ServesGrowingAs, named, no_child};
 
 use roc_book::Book;
 use roc_cli_files::{Fault, NodeNames, Nodes, nodes_of};
 use roc_cli_words::Serving;
 use roc_disk::Disk;
+use roc_epoch::Next;
+use roc_grown_serve::serve_growing;
 use roc_io::{Files, Link, Sink};
 use roc_node_serve::{ServeEnd, serve};
 use std::alloc::Global;
@@ -34,6 +37,7 @@ pub(crate) fn serve_files<'a, F: Files, S: Sink, L: Link, D: Disk, B: Book>(
     disk: &mut D,
     book: &mut B,
 ) -> Result<(), Fault<'a>>
+    requires alone { GrowsAlone (named asked.journal) (named asked.log) (growth_of asked.growth) }
     ensures ends { (words : List (List ℕ)) → AreWordsOf words (serve_command_of asked.entry)
         → LaunchEnds (run_call F.Files S.Sink words files.old files.new out.old out.new)
         (IsServed (run_call F.Files S.Sink words files.old files.new out.old out.new) (link_call L.Link link.old link.new) (disk_call D.Disk disk.old disk.new)
@@ -55,6 +59,8 @@ pub(crate) fn serve_files<'a, F: Files, S: Sink, L: Link, D: Disk, B: Book>(
         workload: asked.workload,
         cluster: asked.cluster,
         requests: None,
+        next: asked.growth,
+        later: None,
         shard: Some(asked.shard),
     };
     match nodes_of(alloc, names, files, out) {
@@ -65,6 +71,78 @@ pub(crate) fn serve_files<'a, F: Files, S: Sink, L: Link, D: Disk, B: Book>(
 
 // The same, once the files were read.
 fn serve_nodes<'a, S: Sink, L: Link, D: Disk, B: Book>(
+    alloc: Global,
+    nodes: &Nodes,
+    asked: Serving<'a>,
+    out: &mut S,
+    link: &mut L,
+    disk: &mut D,
+    book: &mut B,
+) -> Result<(), Fault<'a>>
+    requires cluster { length nodes.now.cluster ≡ nodes.now.plan.program.shards }
+    requires shard { asked.shard.0 < nodes.now.plan.program.shards }
+    ensures ends { (own : Addr) → slice_get nodes.now.cluster asked.entry.shard.0 ≡ Some own
+        → LoopEnded (ByNext nodes.now.next (ServesAs (disk_call D.Disk disk.old disk.new) (named asked.entry.journal) (named asked.entry.log)
+        (node_setting nodes.now.plan nodes.now.tag (Server asked.entry.shard) nodes.now.cluster) asked.entry.shard own asked.entry.turns asked.entry.counts
+        (record { link = link_call L.Link link.old link.new; out = sink_call S.Sink out.old out.new }) (book_call B.Book book.old book.new))
+        (λ next. ServesGrowingAs (grown_node_setting nodes.now.plan nodes.now.tag next (Server asked.entry.shard) nodes.now.cluster) asked.entry.shard own asked.entry.turns asked.entry.counts
+        (record { link = link_call L.Link link.old link.new; out = sink_call S.Sink out.old out.new }))) no_child result }
+    ensures files { fails_by blames_file result ≡ false }
+    ensures late { fails_by precedes_journal result ≡ false }
+    ensures untouched { IsTrue (fails_by precedes_loop result) → link.new ≡ link.old }
+    ensures unkept { named asked.entry.journal ≡ None → disk.new ≡ disk.old }
+    ensures unbegun { IsTrue (fails_by precedes_loop result) → LeavesBook (book_call B.Book book.old book.new) }
+    ensures unlogged { named asked.entry.log ≡ None → LeavesBook (book_call B.Book book.old book.new) }
+    ensures sink_faults { HasCause (fails_by blames_sink result) (S.faults out.old) (S.faults out.new) }
+    ensures link_faults { HasCause (fails_by blames_link result) (L.faults link.old) (L.faults link.new) }
+    ensures disk_faults { HasCause (fails_by blames_disk result) (D.faults disk.old) (D.faults disk.new) }
+    ensures book_faults { HasCause (fails_by blames_book result) (B.faults book.old) (B.faults book.new) }
+{
+    match nodes.next.as_ref() {
+        Some(next) => serve_grown(alloc, nodes, next, asked, out, link),
+        None => serve_plain(alloc, nodes, asked, out, link, disk, book),
+    }
+}
+
+// The same of a server that may go over to a grown workload, which keeps neither a journal nor a log.
+fn serve_grown<'a, S: Sink, L: Link>(
+    alloc: Global,
+    nodes: &Nodes,
+    next: &Next,
+    asked: Serving<'a>,
+    out: &mut S,
+    link: &mut L,
+) -> Result<(), Fault<'a>>
+    requires cluster { length nodes.now.cluster ≡ nodes.now.plan.program.shards }
+    requires shard { asked.shard.0 < nodes.now.plan.program.shards }
+    ensures ends { (own : Addr) → slice_get nodes.now.cluster asked.entry.shard.0 ≡ Some own
+        → LoopEnded (ServesGrowingAs (grown_node_setting nodes.now.plan nodes.now.tag next.now (Server asked.entry.shard) nodes.now.cluster) asked.entry.shard own asked.entry.turns asked.entry.counts
+        (record { link = link_call L.Link link.old link.new; out = sink_call S.Sink out.old out.new })) no_child result }
+    ensures files { fails_by blames_file result ≡ false }
+    ensures late { fails_by precedes_loop result ≡ false }
+    ensures early { fails_by precedes_journal result ≡ false }
+    ensures sink_faults { HasCause (fails_by blames_sink result) (S.faults out.old) (S.faults out.new) }
+    ensures link_faults { HasCause (fails_by blames_link result) (L.faults link.old) (L.faults link.new) }
+    ensures no_disk { fails_by blames_disk result ≡ false }
+    ensures no_book { fails_by blames_book result ≡ false }
+{
+    let end = serve_growing(
+        alloc,
+        &nodes.plan,
+        nodes.tag,
+        next,
+        asked.shard,
+        &nodes.cluster,
+        asked.counts,
+        link,
+        asked.turns,
+        out,
+    );
+    told(end, "", "")
+}
+
+// The same of one that does not.
+fn serve_plain<'a, S: Sink, L: Link, D: Disk, B: Book>(
     alloc: Global,
     nodes: &Nodes,
     asked: Serving<'a>,

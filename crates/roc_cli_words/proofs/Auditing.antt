@@ -15,7 +15,8 @@ use Rattle.roc_cli_words.specs.Commands.{audit, command_by, command_in, most_log
 use Rattle.roc_cli_words.specs.Answer.{AreWordsOf, AreNoCommand, IsPlainWord}
 use Rattle.roc_cli_words.proofs.Taken.{taken}
 use Rattle.roc_cli_words.proofs.Named.{plain_word}
-use Rattle.roc_cli_words.proofs.Several.{IsName, stopped_at, stopped_walk, stopped_fault, taking, taking_walk, taking_fault, TakesSeveral, nothing_behind, two_clear, range_clear, range_refuses, texts_clear}
+use Rattle.roc_cli_words.proofs.Several.{IsName, stopped_at, stopped_walk, stopped_fault, taking, taking_walk, taking_fault, TakesSeveral, nothing_behind, two_clear, range_clear, range_refuses}
+use Rattle.roc_cli_words.proofs.Several.{texts_clear}
 
 -- the program as it is built, the shape of `audit` in it, and its two arguments
 abbrev program : App

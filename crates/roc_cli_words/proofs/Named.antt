@@ -1,5 +1,5 @@
 -- What the program makes of a command and names of files.
-use Rattle.std.proofs.Common.{◌≡◌, Bool, true, false, ◌&&◌, [], ◌∷◌, Some, Ok, codes, refl, bytes_eq}
+use Rattle.std.proofs.Common.{◌≡◌, Bool, true, false, ◌&&◌, [], ◌∷◌, Some, None, Ok, codes, refl, bytes_eq}
 use Rattle.std.proofs.lemmas.Bool.{ne_eqb}
 use Rattle.clap.specs.Words.{Text}
 use Rattle.clap.specs.Faults.{fault_of}
@@ -40,7 +40,7 @@ module _ (w : Text) (asked : IsName w) where
     unfolding clap_on_literals program_app
     replay_taken = simp (asked.no_end, asked.no_flag, second.no_end, second.no_flag)
 
-    replay_asked : command_by (codes "replay" ∷ w ∷ s ∷ []) ≡ Some (Ok (replay w s))
+    replay_asked : command_by (codes "replay" ∷ w ∷ s ∷ []) ≡ Some (Ok (replay w s None))
     unfolding clap_on_literals program_app command_by
     replay_asked = simp (asked.no_end, asked.no_flag, second.no_end, second.no_flag)
 
@@ -50,7 +50,7 @@ checks w plain = let asked = plain_word w plain in record { taken = taken _ (che
 pub prints : (workload : Text) → IsPlainWord workload → AreWordsOf (codes "print" ∷ workload ∷ []) (print workload)
 prints w plain = let asked = plain_word w plain in record { taken = taken _ (print_taken w asked); asked = print_asked w asked }
 
-pub replays : (workload schedule : Text) → IsPlainWord workload → IsPlainWord schedule → AreWordsOf (codes "replay" ∷ workload ∷ schedule ∷ []) (replay workload schedule)
+pub replays : (workload schedule : Text) → IsPlainWord workload → IsPlainWord schedule → AreWordsOf (codes "replay" ∷ workload ∷ schedule ∷ []) (replay workload schedule None)
 replays w s plain second =
     let asked = plain_word w plain in
     let other = plain_word s second in

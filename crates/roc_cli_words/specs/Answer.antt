@@ -13,7 +13,8 @@ pub record AreWordsOf (words : List Text) (command : Command) : Type 0 where
   pub taken : IsTakenByClap words
   pub asked : command_by words ≡ Some (Ok command)
 
--- `clap` takes the words, but the value of this name is none: no number, none in its range, or a log beside a journal; each before it is one
+-- `clap` takes the words, but the value of this name is none: no number, none in its range, a log beside a journal, a workload to grow to without its partner or the other way round, or
+-- one beside a journal or a log; each before it is one
 pub record HaveNoValue (words : List Text) (name : ValueName) : Type 0 where
   pub taken : IsTakenByClap words
   pub asked : command_by words ≡ Some (Err name)

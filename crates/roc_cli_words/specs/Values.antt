@@ -1,6 +1,7 @@
 -- The values among the words that are numbers, and the part of a generated text: docs/FORMATS.md, "Words"
-use Rattle.std.specs.Prelude.{ℕ, Bool, false, not, ◌&&◌, ◌||◌, ◌==◌, nat_le, if◌then◌else◌, List, [], ◌∷◌, length, Option, Some, None, Result, Ok, Err, codes}
+use Rattle.std.specs.Prelude.{ℕ, Bool, true, false, not, ◌&&◌, ◌||◌, ◌==◌, nat_le, if◌then◌else◌, List, [], ◌∷◌, length, Option, Some, None, Result, Ok, Err, codes}
 use Rattle.std.specs.Prelude.{bytes_eq, ok_or}
+use Rattle.std.specs.Option.{option_map_or}
 use Rattle.std.specs.List.{list_all}
 use Rattle.std.specs.Char.{is_ascii_digit}
 use Rattle.std.specs.Str.Parse.{digits_value}
@@ -48,7 +49,23 @@ part_in text =
     else if bytes_eq text (codes "run") then Ok Run
     else Err name.Part
 
+-- how many coordinators there are, where that is given
+abbrev pub coords_in : (text : Option (List ℕ)) → Result (Option ℕ) ValueName
+coords_in None = Ok None
+coords_in (Some text) = option_map_or (λ n. Ok (Some n)) (number_within 1 16 text) (Err name.Coords)
+
 -- a log, where no journal is named
 abbrev pub log_beside : (journal log : Option (List ℕ)) → Result (Option (List ℕ)) ValueName
 log_beside (Some journal) (Some log) = Err name.Log
 log_beside journal log = Ok log
+
+-- a node keeps something: a journal or a log
+abbrev pub keeps_any : (journal log : Option (List ℕ)) → Bool
+keeps_any None None = false
+keeps_any journal log = true
+
+-- a workload to grow to, and what has to be given beside it: both, where nothing is kept, or neither
+abbrev pub with_partner : {A B : Type 0} → (kept : Bool) → (workload : Option A) → (partner : Option B) → Result (Option (A × B)) ValueName
+with_partner kept None None = Ok None
+with_partner false (Some workload) (Some partner) = Ok (Some (workload, partner))
+with_partner kept workload partner = Err name.Next

@@ -31,7 +31,7 @@ Commands:
 pub enum WordsFault {
     /// `clap` refuses them, with this text, in lines.
     Refused(String),
-    /// This value is no number, or none in its range, or a log beside a journal; of several the first that is judged.
+    /// This value is no number, or none in its range, a log beside a journal, or a workload to grow to without its partner or beside one of these; of several the first that is judged.
     Value(ValueName),
     /// There is no memory.
     NoMemory,

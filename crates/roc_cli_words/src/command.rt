@@ -1,17 +1,36 @@
 //! What words ask for.
-ghost use Rattle.std.specs.Prelude.{◌≡◌, ◌≤◌, ℕ, List, [], length, map, take, IfOk, IfSome, option_and_then, option_map, unwrap_or};
+ghost use Rattle.std.specs.Prelude.{◌≡◌, ◌≤◌, ℕ, false, List, [], length, map, take, IfOk, IfSome, option_and_then, option_map, unwrap_or};
 ghost use Rattle.std.specs.Result.{result_map_both};
+ghost use Rattle.roc_cli_words.specs.Values.{with_partner};
 ghost use Rattle.clap.specs.Words.{Text, first_of, found_of, rows_of, subcommand_rows_of};
-ghost use Rattle.roc_cli_words.specs.Commands.{IsWithin, command_in, command_with, gen_in, local_in, logs_by, logs_in, most_logs, log_names, serve_in, submit_in, text_in};
+ghost use Rattle.roc_cli_words.specs.Commands.{IsWithin, IsGrowthWithin, command_in, command_with, gen_in, growth_of, later_of, local_in, logs_by, logs_in, most_logs, log_names, replay_in};
+ghost use Rattle.roc_cli_words.specs.Commands.{serve_in, submit_in, text_in};
 
 use crate::value::{
-    Part, ValueName, coord_in, log_beside, part_in, seed_in, shard_in, shards_in, turns_in, txns_in,
+    Part, ValueName, coord_in, coords_in, keeps_any, log_beside, part_in, seed_in, shard_in,
+    shards_in, turns_in, txns_in,
 };
 use clap::ArgMatches;
 use roc_base::Shard;
 
+/// The workload to grow to, and how many coordinators there are: each of them has to be drained first.
+#[derive(Clone, Copy)]
+pub struct Growth<'a> {
+    pub workload: &'a str,
+    /// 1 to 16.
+    pub coords: u16,
+}
+
+/// The workload to grow to, and the requests to submit under it.
+#[derive(Clone, Copy)]
+pub struct Later<'a> {
+    pub workload: &'a str,
+    pub requests: &'a str,
+}
+
 /// How a shard is to be served: for so many turns, and in the end it is written, if so asked, how many datagrams and messages were refused
-/// and why. With a journal the server begins with what that gives, and keeps there what it takes. With a log it tells there what it does.
+/// and why. With a journal the server begins with what that gives, and keeps there what it takes. With a log it tells there what it does. Where the workload
+/// grows, it has neither.
 #[derive(Clone, Copy)]
 pub struct Serving<'a> {
     pub workload: &'a str,
@@ -21,9 +40,11 @@ pub struct Serving<'a> {
     pub counts: bool,
     pub journal: Option<&'a str>,
     pub log: Option<&'a str>,
+    pub growth: Option<Growth<'a>>,
 }
 
-/// How requests are to be submitted: as this coordinator, for so many turns, and with a log it tells there what it does.
+/// How requests are to be submitted: as this coordinator, for so many turns, and with a log it tells there what it does. Where the workload grows,
+/// it has none.
 #[derive(Clone, Copy)]
 pub struct Submitting<'a> {
     pub workload: &'a str,
@@ -32,6 +53,7 @@ pub struct Submitting<'a> {
     pub coord: u16,
     pub turns: u32,
     pub log: Option<&'a str>,
+    pub growth: Option<Later<'a>>,
 }
 
 /// What words ask for: a command, with the names of its files and its values, each in its range.
@@ -45,10 +67,11 @@ pub enum Ask<'a> {
     Print {
         workload: &'a str,
     },
-    /// To write the report of a schedule.
+    /// To write the report of a schedule, in which the workload grows where that is asked for.
     Replay {
         workload: &'a str,
         schedule: &'a str,
+        growth: Option<Growth<'a>>,
     },
     /// To serve a shard.
     Serve(Serving<'a>),
@@ -121,14 +144,64 @@ fn choice_in<'a>(given: &ArgMatches<'a>, name: &str) -> Option<&'a str>
     given.get_str(name)
 }
 
+// The growth that is asked for: both of its parts are given, where nothing is kept, or neither is.
+fn growth_with<'a>(
+    kept: bool,
+    workload: Option<&'a str>,
+    coords: Option<u16>,
+) -> Result<Option<Growth<'a>>, ValueName>
+    ensures growth { result_map_both growth_of (λ name. name) result ≡ with_partner kept (option_map (λ text. text.now) workload.entry) coords }
+    ensures within { IfSome coords (λ n. (1 ≤ n) × (n ≤ 16)) → IfOk result (λ growth. IsGrowthWithin (growth_of growth)) }
+    ensures alone { IfOk result (λ growth. IfSome growth (λ g. kept ≡ false)) }
+{
+    match (workload, coords) {
+        (Some(workload), Some(coords)) if !kept => Ok(Some(Growth { workload, coords })),
+        (None, None) => Ok(None),
+        _ => Err(ValueName::Next),
+    }
+}
+
+// The same of a coordinator.
+fn later_with<'a>(
+    kept: bool,
+    workload: Option<&'a str>,
+    requests: Option<&'a str>,
+) -> Result<Option<Later<'a>>, ValueName>
+    ensures growth { result_map_both later_of (λ name. name) result
+        ≡ with_partner kept (option_map (λ text. text.now) workload.entry) (option_map (λ text. text.now) requests.entry) }
+    ensures alone { IfOk result (λ growth. IfSome growth (λ g. kept ≡ false)) }
+{
+    match (workload, requests) {
+        (Some(workload), Some(requests)) if !kept => Ok(Some(Later { workload, requests })),
+        (None, None) => Ok(None),
+        _ => Err(ValueName::Next),
+    }
+}
+
+fn replay_in<'a>(given: &ArgMatches<'a>) -> Result<Ask<'a>, ValueName>
+    ensures command { result_map_both (command_with (logs_in (rows_of (found_of given.now)))) (λ name. name) result ≡ replay_in (rows_of (found_of given.now)) }
+    ensures within { (logs : List Text) → IfOk result (λ ask. IsWithin (command_with logs ask)) }
+{
+    let coords = coords_in(choice_in(given, "coords"))?;
+    let growth = growth_with(false, choice_in(given, "next"), coords)?;
+    Ok(Ask::Replay {
+        workload: text_in(given, "workload"),
+        schedule: text_in(given, "schedule"),
+        growth,
+    })
+}
+
 fn serve_in<'a>(given: &ArgMatches<'a>) -> Result<Ask<'a>, ValueName>
     ensures command { result_map_both (command_with (logs_in (rows_of (found_of given.now)))) (λ name. name) result ≡ serve_in (rows_of (found_of given.now)) }
     ensures within { (logs : List Text) → IfOk result (λ ask. IsWithin (command_with logs ask)) }
 {
     let shard = shard_in(text_in(given, "shard"))?;
     let turns = turns_in(text_in(given, "turns"))?;
+    let coords = coords_in(choice_in(given, "coords"))?;
     let journal = choice_in(given, "journal");
     let log = log_beside(journal, choice_in(given, "log"))?;
+    let kept = keeps_any(journal, log);
+    let growth = growth_with(kept, choice_in(given, "next"), coords)?;
     Ok(Ask::Serve(Serving {
         workload: text_in(given, "workload"),
         cluster: text_in(given, "cluster"),
@@ -137,6 +210,7 @@ fn serve_in<'a>(given: &ArgMatches<'a>) -> Result<Ask<'a>, ValueName>
         counts: text_in(given, "counts") == "true",
         journal,
         log,
+        growth,
     }))
 }
 
@@ -146,13 +220,17 @@ fn submit_in<'a>(given: &ArgMatches<'a>) -> Result<Ask<'a>, ValueName>
 {
     let coord = coord_in(text_in(given, "coord"))?;
     let turns = turns_in(text_in(given, "turns"))?;
+    let log = choice_in(given, "log");
+    let kept = keeps_any(None, log);
+    let growth = later_with(kept, choice_in(given, "next"), choice_in(given, "then"))?;
     Ok(Ask::Submit(Submitting {
         workload: text_in(given, "workload"),
         cluster: text_in(given, "cluster"),
         requests: text_in(given, "requests"),
         coord,
         turns,
-        log: choice_in(given, "log"),
+        log,
+        growth,
     }))
 }
 
@@ -224,10 +302,7 @@ fn command_in<'a>(name: &str, given: &ArgMatches<'a>) -> Option<Result<Ask<'a>, 
     match name {
         "check" => Some(Ok(Ask::Check { workload })),
         "print" => Some(Ok(Ask::Print { workload })),
-        "replay" => Some(Ok(Ask::Replay {
-            workload,
-            schedule: text_in(given, "schedule"),
-        })),
+        "replay" => Some(replay_in(given)),
         "serve" => Some(serve_in(given)),
         "submit" => Some(submit_in(given)),
         "stop" => Some(Ok(Ask::Stop {

@@ -1,5 +1,5 @@
 //! Laws of the words, over all names of files. Each is the contract of a function that does nothing.
-ghost use Rattle.std.specs.Prelude.{◌≤◌, ◌<◌, List, codes, length, [], ◌∷◌};
+ghost use Rattle.std.specs.Prelude.{◌≤◌, ◌<◌, List, codes, length, [], ◌∷◌, None};
 ghost use Rattle.std.specs.List.{AllByRecursion};
 ghost use Rattle.clap.specs.Words.{Text};
 ghost use Rattle.roc_cli_words.specs.Answer.{AreNoCommand, AreWordsOf, IsPlainWord};
@@ -11,7 +11,7 @@ pub fn files_are_named()
     ensures check { (workload : Text) → IsPlainWord workload → AreWordsOf (codes "check" ∷ workload ∷ []) (Command.check workload) }
     ensures print { (workload : Text) → IsPlainWord workload → AreWordsOf (codes "print" ∷ workload ∷ []) (Command.print workload) }
     ensures replay { (workload schedule : Text) → IsPlainWord workload → IsPlainWord schedule
-        → AreWordsOf (codes "replay" ∷ workload ∷ schedule ∷ []) (Command.replay workload schedule) }
+        → AreWordsOf (codes "replay" ∷ workload ∷ schedule ∷ []) (Command.replay workload schedule None) }
     ensures audit { (workload : Text) (logs : List Text) → IsPlainWord workload → AllByRecursion IsPlainWord logs → 1 ≤ length logs → length logs ≤ most_logs
         → AreWordsOf (codes "audit" ∷ workload ∷ logs) (Command.audit workload logs) }
     ensures past { (workload : Text) (logs : List Text) → IsPlainWord workload → AllByRecursion IsPlainWord logs → most_logs < length logs

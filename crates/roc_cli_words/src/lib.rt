@@ -4,7 +4,8 @@
 //! texts, and are judged here (`specs/Values.antt`). What words ask for stands in `specs/Commands.antt`, and what `ask`
 //! answers in `specs/Answer.antt`: a command exactly if the words are those of one, unless memory runs out; `Refused`
 //! only if `clap` finds a fault, and then the words ask for no command; `Value` only if this value is the first that is
-//! wrong, a log beside a journal last. Want of memory is never told as a refusal. What the text of a refusal says is told by no clause.
+//! wrong, a log beside a journal behind all numbers, and last a workload to grow to without its partner or beside a
+//! journal or a log. Want of memory is never told as a refusal. What the text of a refusal says is told by no clause.
 //! That `check W`, `print W`, `replay W S` and `audit W LOGS..` ask for just that, of all names that are not empty and do not begin
 //! with a dash, and that more than 80 logs are refused, are laws ([`laws`]).
 //! `specs/Inner/` is of this crate alone.
@@ -17,5 +18,5 @@ mod program;
 mod value;
 
 pub use answer::{WordsFault, ask};
-pub use command::{Ask, Asked, LogNames, Serving, Submitting};
+pub use command::{Ask, Asked, Growth, Later, LogNames, Serving, Submitting};
 pub use value::{Part, ValueName};

@@ -75,7 +75,9 @@ fn replay_command<'a>(alloc: Global) -> Result<Command<'a>, AllocError>
     ensures { IfOk result (λ c. IsSoFar c replay_app) }
 {
     let command = workload_command(alloc, "replay");
-    with(command, standing(alloc, "schedule"))
+    let command = with(command, standing(alloc, "schedule"));
+    let command = with(command, choice(alloc, "next"));
+    with(command, choice(alloc, "coords"))
 }
 
 fn cluster_command<'a>(alloc: Global, name: &'a str) -> Result<Command<'a>, AllocError>
@@ -93,7 +95,9 @@ fn serve_command<'a>(alloc: Global) -> Result<Command<'a>, AllocError>
     let command = with(command, named(alloc, "turns"));
     let command = with(command, flag(alloc, "counts"));
     let command = with(command, choice(alloc, "journal"));
-    with(command, choice(alloc, "log"))
+    let command = with(command, choice(alloc, "log"));
+    let command = with(command, choice(alloc, "next"));
+    with(command, choice(alloc, "coords"))
 }
 
 fn submit_command<'a>(alloc: Global) -> Result<Command<'a>, AllocError>
@@ -103,7 +107,9 @@ fn submit_command<'a>(alloc: Global) -> Result<Command<'a>, AllocError>
     let command = with(command, standing(alloc, "requests"));
     let command = with(command, named(alloc, "coord"));
     let command = with(command, named(alloc, "turns"));
-    with(command, choice(alloc, "log"))
+    let command = with(command, choice(alloc, "log"));
+    let command = with(command, choice(alloc, "next"));
+    with(command, choice(alloc, "then"))
 }
 
 fn local_command<'a>(alloc: Global) -> Result<Command<'a>, AllocError>
@@ -186,16 +192,19 @@ pub(crate) fn program<'a>(alloc: Global) -> Result<Command<'a>, AllocError>
     let program = under(bare_command(alloc), check);
     let print = used_as(workload_command(alloc, "print"), "rococo print WORKLOAD");
     let program = joined(program, print);
-    let replay = used_as(replay_command(alloc), "rococo replay WORKLOAD SCHEDULE");
+    let replay = used_as(
+        replay_command(alloc),
+        "rococo replay WORKLOAD SCHEDULE [--next WORKLOAD --coords M]",
+    );
     let program = joined(program, replay);
     let serve = used_as(
         serve_command(alloc),
-        "rococo serve WORKLOAD CLUSTER --shard N --turns T [--counts] [--journal FILE] [--log FILE]",
+        "rococo serve WORKLOAD CLUSTER --shard N --turns T [--counts] [--journal FILE] [--log FILE] [--next WORKLOAD --coords M]",
     );
     let program = joined(program, serve);
     let submit = used_as(
         submit_command(alloc),
-        "rococo submit WORKLOAD CLUSTER REQUESTS --coord C --turns T [--log FILE]",
+        "rococo submit WORKLOAD CLUSTER REQUESTS --coord C --turns T [--log FILE] [--next WORKLOAD --then REQUESTS]",
     );
     let program = joined(program, submit);
     let stop = used_as(

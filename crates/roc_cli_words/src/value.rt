@@ -4,7 +4,7 @@ ghost use Rattle.std.specs.Result.{result_map_both};
 ghost use Rattle.std.specs.List.{list_all};
 ghost use Rattle.std.specs.Char.{is_ascii_digit};
 ghost use Rattle.roc_cli_words.specs.FaultText.{value_text};
-ghost use Rattle.roc_cli_words.specs.Values.{is_plain_number, number_within, shard_in, turns_in, coord_in, seed_in, shards_in, txns_in, part_in, log_beside};
+ghost use Rattle.roc_cli_words.specs.Values.{is_plain_number, number_within, shard_in, turns_in, coord_in, seed_in, shards_in, txns_in, part_in, coords_in, keeps_any, log_beside};
 
 use roc_base::Shard;
 use std::fmt;
@@ -18,6 +18,8 @@ pub enum ValueName {
     Turns,
     /// The coordinator to be, 0 to 15.
     Coord,
+    /// How many coordinators there are, 1 to 16.
+    Coords,
     /// What a generated text begins from, 0 to 18446744073709551615.
     Seed,
     /// How many shards a generated workload has, 1 to 64.
@@ -28,6 +30,8 @@ pub enum ValueName {
     Part,
     /// The log to keep, which stands beside no journal.
     Log,
+    /// The workload to grow to, which stands with its partner alone, and beside neither a journal nor a log.
+    Next,
 }
 
 /// What to generate.
@@ -50,11 +54,13 @@ impl ValueName {
             ValueName::Shard => "shard: 0 to 63",
             ValueName::Turns => "turns: 1 to 4294967295",
             ValueName::Coord => "coord: 0 to 15",
+            ValueName::Coords => "coords: 1 to 16",
             ValueName::Seed => "seed: 0 to 18446744073709551615",
             ValueName::Shards => "shards: 1 to 64",
             ValueName::Txns => "txns: 1 to 1000",
             ValueName::Part => "part: workload, schedule or run",
             ValueName::Log => "log",
+            ValueName::Next => "next",
         }
     }
 }
@@ -133,6 +139,20 @@ pub(crate) fn coord_in(text: &str) -> Result<u16, ValueName>
     }
 }
 
+/// How many coordinators there are, where that is given.
+pub(crate) fn coords_in(text: Option<&str>) -> Result<Option<u16>, ValueName>
+    ensures value { result ≡ coords_in (option_map (λ text. text.now) text.entry) }
+    ensures fits { IfOk result (λ coords. IfSome coords (λ n. (1 ≤ n) × (n ≤ 16))) }
+{
+    let Some(text) = text else {
+        return Ok(None);
+    };
+    match number_within(text, 1, 16) {
+        Some(number) => Ok(Some(number as u16)),
+        None => Err(ValueName::Coords),
+    }
+}
+
 /// What a generated text begins from.
 pub(crate) fn seed_in(text: &str) -> Result<u64, ValueName>
     ensures { result ≡ seed_in text.now }
@@ -188,5 +208,15 @@ pub(crate) fn log_beside<'a>(
     match (journal, log) {
         (Some(_), Some(_)) => Err(ValueName::Log),
         _ => Ok(log),
+    }
+}
+
+/// Whether a node keeps anything.
+pub(crate) fn keeps_any(journal: Option<&str>, log: Option<&str>) -> bool
+    ensures { result ≡ keeps_any (option_map (λ text. text.now) journal.entry) (option_map (λ text. text.now) log.entry) }
+{
+    match (journal, log) {
+        (None, None) => false,
+        _ => true,
     }
 }

@@ -7,13 +7,16 @@ use Rattle.roc_base.specs.declared.node.Node.TheVariants.{Server, Coord}
 use Rattle.roc_base.specs.declared.node.Shard.{Shard}
 use Rattle.roc_base.specs.Node.{is_node}
 use Rattle.roc_msg.specs.declared.msg.Envelope.{Envelope}
-use Rattle.roc_protocol.specs.declared.event.Event.TheVariants.{Submit, Deliver, Tick, Stop}
-use Rattle.roc_protocol.specs.Happens.{IsSentTo}
-use Rattle.roc_views.specs.World.{World}
+use Rattle.roc_two_files.specs.Sealed.{Sealed}
+use Rattle.roc_growth.specs.declared.event.Event.TheVariants.{Submit, Deliver, Tick, Stop, Drain}
+use Rattle.roc_growth.specs.Happens.{IsSentTo}
+use Rattle.roc_growth.specs.Quiet.{messages_of}
+use Rattle.roc_growth.specs.World.{GrownWorld}
 use Rattle.roc_replay.specs.declared.asked.Wanted.{Wanted}
 use Rattle.roc_replay.specs.declared.asked.Wanted.TheVariants as wanted
 use Rattle.roc_replay.specs.BoundLine.{AsksForSent}
 use Rattle.roc_replay.specs.Inner.Closed.{goes_to, is_sent_to, wants_unsent}
+use Rattle.roc_replay.proofs.Messages.{message_there, from_messages, many_messages}
 
 -- ---- one message
 
@@ -29,36 +32,41 @@ some_number : (number : ℕ) → (number == 0) ≡ false → 0 < number
 some_number zero h = absurd (false≢true (sym h))
 some_number (suc n) h = omega arith
 
-sent_to : (sent : List Envelope) (shard : Shard) (number : ℕ) → is_sent_to shard number sent ≡ true → (m : Envelope) × IsSentTo sent number shard.0 m
+sent_to : (sent : List Sealed) (shard : Shard) (number : ℕ) → is_sent_to shard number (messages_of sent) ≡ true → (m : Sealed) × IsSentTo sent number shard.0 m
 sent_to sent shard number h = go (number == 0) refl h
   where
-    go : (b : Bool) → (number == 0) ≡ b → (if b then false else goes_to shard (slice_get sent (number - 1))) ≡ true → (m : Envelope) × IsSentTo sent number shard.0 m
+    go : (b : Bool) → (number == 0) ≡ b → (if b then false else goes_to shard (slice_get (messages_of sent) (number - 1))) ≡ true → (m : Sealed) × IsSentTo sent number shard.0 m
     go true e h = absurd (false≢true h)
-    go false e h = let m = goes_there shard (slice_get sent (number - 1)) h in (m.0, record { some = some_number number e; there = m.1; to = m.2 })
+    go false e h =
+        let m = goes_there shard (slice_get (messages_of sent) (number - 1)) h in
+        let own = from_messages sent (number - 1) m.0 m.1 in
+        (own.0, record { some = some_number number e; there = own.1; to = ap (λ (m : Envelope). m.to) own.2 ∙ m.2 })
 
-is_sent : (sent : List Envelope) (shard : Shard) (number : ℕ) (m : Envelope) → IsSentTo sent number shard.0 m → is_sent_to shard number sent ≡ true
+is_sent : (sent : List Sealed) (shard : Shard) (number : ℕ) (m : Sealed) → IsSentTo sent number shard.0 m → is_sent_to shard number (messages_of sent) ≡ true
 is_sent sent shard number m h =
     let some = h.some in
-    ap (λ b. if b then false else goes_to shard (slice_get sent (number - 1))) (ne_eqb number 0 (λ e. omega arith))
-    ∙ ap (goes_to shard) h.there
+    ap (λ b. if b then false else goes_to shard (slice_get (messages_of sent) (number - 1))) (ne_eqb number 0 (λ e. omega arith))
+    ∙ ap (goes_to shard) (message_there sent (number - 1) m h.there)
     ∙ ap (λ (to : Node). is_node to (Server shard)) h.to
     ∙ eq-eqb shard.0 shard.0 refl
 
 -- ---- what a line asks for
 
-pub is_there : (w : World) (a : Wanted) → wants_unsent a w.sent ≡ false → AsksForSent w a
+pub is_there : (w : GrownWorld) (a : Wanted) → wants_unsent a (messages_of w.sent) ≡ false → AsksForSent w a
 is_there w (wanted.Any place) h = tt
 is_there w (wanted.Event (Submit coord proc args)) h = tt
-is_there w (wanted.Event (Deliver number)) h = ltb-false (length w.sent) number h
+is_there w (wanted.Event (Deliver number)) h = let l = ltb-false (length (messages_of w.sent)) number h in let many = many_messages w.sent in omega arith
 is_there w (wanted.Event (Tick node)) h = tt
+is_there w (wanted.Event (Drain coord)) h = tt
 is_there w (wanted.Event (Stop shard None)) h = tt
-is_there w (wanted.Event (Stop shard (Some (number, kept)))) h = sent_to w.sent shard number (not-false (is_sent_to shard number w.sent) h)
+is_there w (wanted.Event (Stop shard (Some (number, kept)))) h = sent_to w.sent shard number (not-false (is_sent_to shard number (messages_of w.sent)) h)
 
-pub is_not_there : (w : World) (a : Wanted) → wants_unsent a w.sent ≡ true → AsksForSent w a → ⊥
+pub is_not_there : (w : GrownWorld) (a : Wanted) → wants_unsent a (messages_of w.sent) ≡ true → AsksForSent w a → ⊥
 is_not_there w (wanted.Any place) h there = false≢true h
 is_not_there w (wanted.Event (Submit coord proc args)) h there = false≢true h
-is_not_there w (wanted.Event (Deliver number)) h there = let past = ltb-true (length w.sent) number h in omega arith
+is_not_there w (wanted.Event (Deliver number)) h there = let past = ltb-true (length (messages_of w.sent)) number h in let many = many_messages w.sent in omega arith
 is_not_there w (wanted.Event (Tick node)) h there = false≢true h
+is_not_there w (wanted.Event (Drain coord)) h there = false≢true h
 is_not_there w (wanted.Event (Stop shard None)) h there = false≢true h
 is_not_there w (wanted.Event (Stop shard (Some (number, kept)))) h there =
-    false≢true (sym (not-true (is_sent_to shard number w.sent) h) ∙ is_sent w.sent shard number there.0 there.1)
+    false≢true (sym (not-true (is_sent_to shard number (messages_of w.sent)) h) ∙ is_sent w.sent shard number there.0 there.1)

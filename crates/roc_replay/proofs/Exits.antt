@@ -8,9 +8,12 @@ use Rattle.roc_sequence.proofs.Fronts.{parts_at}
 use Rattle.roc_sequence.proofs.Holds.{all_append}
 use Rattle.roc_io.specs.Observed.{Adds, AddsFront}
 use Rattle.roc_io.proofs.Told.{Adds-trans, AddsThenFront-behind}
+use Rattle.roc_base.specs.declared.id.TxnId.{TxnId}
 use Rattle.roc_plan.specs.Groups.{Plan}
-use Rattle.roc_views.specs.Run.{Stepped, IsRun}
-use Rattle.roc_views.specs.World.{World}
+use Rattle.roc_epoch.specs.declared.next.Next.{Next}
+use Rattle.roc_growth.specs.Run.{Stepped, IsGrownRun}
+use Rattle.roc_growth.specs.Quiet.{messages_of}
+use Rattle.roc_growth.specs.World.{GrownWorld}
 use Rattle.roc_world.specs.Reads.{cells_of, unanswered_of}
 use Rattle.roc_report.specs.Line.{Line, Row, Pending}
 use Rattle.roc_report.specs.ReportLine.{HasSmallNumbers, HaveSmallNumbers, NamesPartsOf, IsReportLine}
@@ -18,14 +21,14 @@ use Rattle.roc_report.specs.Text.{line_text, lines_text}
 use Rattle.roc_replay.specs.declared.ended.Ended.{Ended}
 use Rattle.roc_replay.specs.declared.ended.Ended.TheVariants.{Done, Text, SinkFault, NoMemory}
 use Rattle.roc_replay.specs.declared.asked.BoundLine.{BoundLine}
-use Rattle.roc_replay.specs.BoundLine.{IsScheduleOf, coordinators, event_in}
+use Rattle.roc_replay.specs.BoundLine.{IsScheduleOf, coordinators, last_program, event_in}
 use Rattle.roc_replay.specs.Cells.{by_cell}
 use Rattle.roc_replay.specs.Inner.Closed.{IsClosed, wants_unsent}
-use Rattle.roc_replay.specs.Ended.{AnswersWhatIsQuiet, IsUnsent, IsCut, at_line, at_end, IsUnfinished, behind_lines}
+use Rattle.roc_replay.specs.Ended.{AnswersWhatIsQuiet, AreFiled, IsUnsent, IsCut, at_line, at_end, IsUnfinished, behind_lines}
 use Rattle.roc_replay.specs.Inner.Ends.{IsEnd}
 use Rattle.roc_replay.specs.Played.{IsPlayedLine}
 use Rattle.roc_replay.specs.Report.{is_busy, busy_in, end_line, closing_lines, steps_lines, report}
-use Rattle.roc_replay.specs.Readback.{IsExplained}
+use Rattle.roc_replay.specs.Readback.{orders_in, IsExplained, FilesStandApart}
 use Rattle.roc_replay.proofs.AskedMessages.{is_not_there}
 use Rattle.roc_replay.proofs.Playing.{played_run}
 use Rattle.roc_replay.proofs.SoFar.{IsSoFar, count_by-append}
@@ -36,15 +39,15 @@ none_counted p f none (x ∷ xs) = ap (λ b. fold (λ n y. n + cond (p y) 1 0) (
 
 -- ---- the ends
 
-module _ (plan : Plan) (schedule : List ℕ) (lines : List BoundLine) (of : IsScheduleOf plan.program schedule lines) where
+module _ (plan : Plan) (next : Option Next) (schedule : List ℕ) (lines : List BoundLine) (of : IsScheduleOf plan next schedule lines) where
   -- the next line asks for a message that is not there
-  pub unsent_end : (i : ℕ) (line : BoundLine) (w : World) (busy : ℕ) (old now : Option (List ℕ)) → i < length lines → line ≡ get_or lines i line
-      → IsSoFar plan (take i lines) w busy old now → wants_unsent line.wanted w.sent ≡ true → IsUnsent plan schedule line.number old now
+  pub unsent_end : (i : ℕ) (line : BoundLine) (w : GrownWorld) (busy : ℕ) (old now : Option (List ℕ)) → i < length lines → line ≡ get_or lines i line
+      → IsSoFar plan next (take i lines) w busy old now → wants_unsent line.wanted (messages_of w.sent) ≡ true → IsUnsent plan next schedule line.number old now
   unsent_end i line w busy old now within is so asks = record {
     before = take i lines;
     line = line;
     behind = drop (suc i) lines;
-    of_schedule = subst (IsScheduleOf plan.program schedule) (sym (parts_at lines i line within is)) of;
+    of_schedule = subst (IsScheduleOf plan next schedule) (sym (parts_at lines i line within is)) of;
     numbered = refl;
     steps = so.steps;
     world = w;
@@ -54,21 +57,21 @@ module _ (plan : Plan) (schedule : List ℕ) (lines : List BoundLine) (of : IsSc
   }
 
   -- no memory for the next line
-  pub stopped_end : (i : ℕ) (w : World) (busy : ℕ) (old now : Option (List ℕ)) → IsSoFar plan (take i lines) w busy old now → IsUnfinished plan schedule old now
+  pub stopped_end : (i : ℕ) (w : GrownWorld) (busy : ℕ) (old now : Option (List ℕ)) → IsSoFar plan next (take i lines) w busy old now → IsUnfinished plan next schedule old now
   stopped_end i w busy old now so =
-      behind_lines (take i lines) (drop i lines) so.steps w (subst (IsScheduleOf plan.program schedule) (sym (take-append-drop i lines)) of) so.played so.taken
+      behind_lines (take i lines) (drop i lines) so.steps w (subst (IsScheduleOf plan next schedule) (sym (take-append-drop i lines)) of) so.played so.taken
 
   -- the sink failed at the text of a line
-  pub failed_end : (i : ℕ) (line : BoundLine) (w after : World) (text : List ℕ) (busy more : ℕ) (old now then : Option (List ℕ)) → i < length lines → line ≡ get_or lines i line
-      → IsSoFar plan (take i lines) w busy old now → IsPlayedLine plan (event_in w line.wanted) w after text more → AddsFront now then text → IsCut plan schedule old then
-  failed_end i line w after text busy more old now then within is so next front =
+  pub failed_end : (i : ℕ) (line : BoundLine) (w after : GrownWorld) (text : List ℕ) (busy more : ℕ) (old now then : Option (List ℕ)) → i < length lines → line ≡ get_or lines i line
+      → IsSoFar plan next (take i lines) w busy old now → IsPlayedLine plan next (event_in w line.wanted) w after text more → AddsFront now then text → IsCut plan next schedule old then
+  failed_end i line w after text busy more old now then within is so played front =
       at_line (take i lines) line (drop (suc i) lines) so.steps w after text more
-      (subst (IsScheduleOf plan.program schedule) (sym (parts_at lines i line within is)) of) so.played next
+      (subst (IsScheduleOf plan next schedule) (sym (parts_at lines i line within is)) of) so.played played
       (AddsThenFront-behind old now then _ text so.taken front)
 
   -- ---- the closing lines
 
-  busy_in-closing : (w : World) → busy_in (closing_lines w) ≡ 0
+  busy_in-closing : (w : GrownWorld) → busy_in (closing_lines w) ≡ 0
   busy_in-closing w =
       let rows = map (λ e. Row e.0 e.1) (by_cell (cells_of w)) in
       let one = count_by-append is_busy rows (map Pending (unanswered_of w) ++ end_line w ∷ []) in
@@ -78,30 +81,38 @@ module _ (plan : Plan) (schedule : List ℕ) (lines : List BoundLine) (of : IsSc
       omega arith
 
   -- lines with small numbers that name parts of the program are lines of a report
-  report_lines : (ls : List Line) → HaveSmallNumbers ls → AllByRecursion (NamesPartsOf plan.program) ls → AllByRecursion (IsReportLine plan.program) ls
+  report_lines : (ls : List Line) → HaveSmallNumbers ls → AllByRecursion (NamesPartsOf (last_program plan next)) ls → AllByRecursion (IsReportLine (last_program plan next)) ls
   report_lines [] small parts = tt
   report_lines (l ∷ ls) small parts = (record { small = small.0; parts = parts.0 }, report_lines ls small.1 parts.1)
 
   -- where each run of the plan explains itself, and its lines name parts of the program
-  pub closed_end : (explains : (coords : ℕ) (steps : List Stepped) (w : World) → IsRun plan coords steps w → IsExplained plan.program (report steps w))
-      → (answers : (coords : ℕ) (steps : List Stepped) (w : World) → IsRun plan coords steps w → AnswersWhatIsQuiet plan steps w (report steps w))
-      → (names : (coords : ℕ) (steps : List Stepped) (w : World) → IsRun plan coords steps w → AllByRecursion (NamesPartsOf plan.program) (report steps w))
-      → (w : World) (busy : ℕ) (old now then : Option (List ℕ)) → IsSoFar plan lines w busy old now → (e : Ended)
-      → IsClosed plan.program w busy e now then → IsEnd plan schedule e old then
-  closed_end explains answers names w busy old now then so (Done summary) (adds, end, refused, small) =
-      let run = played_run plan lines so.steps w so.played in
+  pub closed_end : (explains : (coords : ℕ) (steps : List Stepped) (w : GrownWorld) → IsGrownRun plan next coords steps w → IsExplained (last_program plan next) (report steps w))
+      → (filed : (coords : ℕ) (steps : List Stepped) (w : GrownWorld) → IsGrownRun plan next coords steps w → (order : List TxnId) → orders_in (report steps w) ≡ order ∷ []
+      → AreFiled plan next w (report steps w) order)
+      → (apart : (coords : ℕ) (steps : List Stepped) (w : GrownWorld) → IsGrownRun plan next coords steps w → (order : List TxnId) → orders_in (report steps w) ≡ order ∷ []
+      → FilesStandApart (report steps w) order)
+      → (answers : (coords : ℕ) (steps : List Stepped) (w : GrownWorld) → IsGrownRun plan next coords steps w → AnswersWhatIsQuiet plan next steps w (report steps w))
+      → (names : (coords : ℕ) (steps : List Stepped) (w : GrownWorld) → IsGrownRun plan next coords steps w → AllByRecursion (NamesPartsOf (last_program plan next)) (report steps w))
+      → (w : GrownWorld) (busy : ℕ) (old now then : Option (List ℕ)) → IsSoFar plan next lines w busy old now → (e : Ended)
+      → IsClosed (last_program plan next) w busy e now then → IsEnd plan next schedule e old then
+  closed_end explains filed apart answers names w busy old now then so (Done summary) (adds, end, refused, small) =
+      let run = played_run plan next lines so.steps w so.played in
+      let count = coordinators next in
+      let told = explains count so.steps w run in
       record {
         lines = report so.steps w;
-        taken = subst (Adds old then) (sym (flat_map-append (line_text plan.program) (steps_lines [] so.steps) (closing_lines w))) (Adds-trans old now then _ _ so.taken adds);
-        are = report_lines (report so.steps w) (all_append HasSmallNumbers (steps_lines [] so.steps) (closing_lines w) so.small small) (names coordinators so.steps w run);
-        explained = explains coordinators so.steps w run;
+        taken = subst (Adds old then) (sym (flat_map-append (line_text (last_program plan next)) (steps_lines [] so.steps) (closing_lines w))) (Adds-trans old now then _ _ so.taken adds);
+        are = report_lines (report so.steps w) (all_append HasSmallNumbers (steps_lines [] so.steps) (closing_lines w) so.small small) (names count so.steps w run);
+        explained = told;
+        apart = apart count so.steps w run told.order told.shown;
         run = record { asked = lines; of_schedule = of; steps = so.steps; world = w; played = so.played; is = refl };
-        answers = answers coordinators so.steps w run;
+        filed = filed count so.steps w run told.order told.shown;
+        answers = answers count so.steps w run;
         end = end;
         busy = (let all = count_by-append is_busy (steps_lines [] so.steps) (closing_lines w) in let none = busy_in-closing w in let before = so.refused in omega arith);
       }
-  closed_end explains answers names w busy old now then so SinkFault front = at_end lines so.steps w of so.played (AddsThenFront-behind old now then _ _ so.taken front)
-  closed_end explains answers names w busy old now then so NoMemory same =
-      behind_lines lines [] so.steps w (subst (IsScheduleOf plan.program schedule) (sym (append-nil lines)) of) so.played
-      (subst (λ (x : Option (List ℕ)). Adds old x (lines_text plan.program (steps_lines [] so.steps))) (sym same) so.taken)
-  closed_end explains answers names w busy old now then so (Text line what) never = absurd never
+  closed_end explains filed apart answers names w busy old now then so SinkFault front = at_end lines so.steps w of so.played (AddsThenFront-behind old now then _ _ so.taken front)
+  closed_end explains filed apart answers names w busy old now then so NoMemory same =
+      behind_lines lines [] so.steps w (subst (IsScheduleOf plan next schedule) (sym (append-nil lines)) of) so.played
+      (subst (λ (x : Option (List ℕ)). Adds old x (lines_text (last_program plan next) (steps_lines [] so.steps))) (sym same) so.taken)
+  closed_end explains filed apart answers names w busy old now then so (Text line what) never = absurd never

@@ -7,14 +7,16 @@ use Rattle.roc_msg.specs.declared.msg.Envelope.{Envelope}
 use Rattle.roc_msg.specs.declared.reason.Reason.{Reason}
 use Rattle.roc_msg.specs.declared.reason.Reason.TheVariants.{Stale}
 use Rattle.roc_plan.specs.Groups.{Plan}
+use Rattle.roc_epoch.specs.declared.next.Next.{Next}
 use Rattle.roc_audit.proofs.Splits.{not_empty, split_append}
-use Rattle.roc_protocol.specs.declared.event.Event.{Event}
-use Rattle.roc_protocol.specs.declared.event.Event.TheVariants as event
-use Rattle.roc_protocol.specs.declared.event.Seen.{Seen}
-use Rattle.roc_protocol.specs.declared.event.Seen.TheVariants as seen
-use Rattle.roc_views.specs.World.{World}
-use Rattle.roc_views.specs.Happens.{Outcome, Happens}
-use Rattle.roc_views.specs.Run.{Stepped, Transition, IsRun, at_beginning, steps_on}
+use Rattle.roc_growth.specs.declared.event.Event.{Event}
+use Rattle.roc_growth.specs.declared.event.Event.TheVariants as event
+use Rattle.roc_growth.specs.declared.event.Seen.{Seen}
+use Rattle.roc_growth.specs.declared.event.Seen.TheVariants as seen
+use Rattle.roc_growth.specs.World.{GrownWorld}
+use Rattle.roc_growth.specs.Happens.{Outcome, Happens}
+use Rattle.roc_growth.specs.Run.{Stepped, Transition, IsGrownRun, at_first, steps_on}
+use Rattle.roc_growth.specs.Quiet.{messages_of}
 use Rattle.roc_world.specs.Reads.{cells_of, unanswered_of}
 use Rattle.roc_report.specs.Line.{Line, Deliver, Ignored, Row, Pending}
 use Rattle.roc_replay.specs.Cells.{by_cell}
@@ -78,34 +80,35 @@ sends_quiet : (number : ℕ) (sent : List Envelope) → NoneIgnored (send_lines 
 sends_quiet number [] = refl
 sends_quiet number (s ∷ rest) = sends_quiet (number + 1) rest
 
-first_stale : (plan : Plan) (w : World) (e : Option Event) (o : Outcome) → ((k : ℕ) (why : Reason) → Happens plan w (event.Deliver k) o → o.seen ≡ seen.Ignored why → why ≡ Stale)
-    → Transition plan w e o → IgnoreOnlyStale (first_lines e o.seen)
-first_stale plan w None o stale h = quiet (first_lines None o.seen) refl
-first_stale plan w (Some (event.Submit coord proc args)) o stale h = quiet (submission_lines coord proc args o.seen) (submission_quiet coord proc args o.seen)
-first_stale plan w (Some (event.Deliver k)) o stale h = delivery_stale k o.seen (λ why. stale k why h)
-first_stale plan w (Some (event.Tick node)) o stale h = quiet (first_lines (Some (event.Tick node)) o.seen) refl
-first_stale plan w (Some (event.Stop shard during)) o stale h = quiet (first_lines (Some (event.Stop shard during)) o.seen) refl
+first_stale : (plan : Plan) (next : Option Next) (w : GrownWorld) (e : Option Event) (o : Outcome) → ((k : ℕ) (why : Reason) → Happens plan next w (event.Deliver k) o → o.seen ≡ seen.Ignored why → why ≡ Stale)
+    → Transition plan next w e o → IgnoreOnlyStale (first_lines e o.seen)
+first_stale plan next w None o stale h = quiet (first_lines None o.seen) refl
+first_stale plan next w (Some (event.Submit coord proc args)) o stale h = quiet (submission_lines coord proc args o.seen) (submission_quiet coord proc args o.seen)
+first_stale plan next w (Some (event.Deliver k)) o stale h = delivery_stale k o.seen (λ why. stale k why h)
+first_stale plan next w (Some (event.Tick node)) o stale h = quiet (first_lines (Some (event.Tick node)) o.seen) refl
+first_stale plan next w (Some (event.Stop shard during)) o stale h = quiet (first_lines (Some (event.Stop shard during)) o.seen) refl
+first_stale plan next w (Some (event.Drain coord)) o stale h = quiet (first_lines (Some (event.Drain coord)) o.seen) refl
 
 -- ---- a report
 
-module _ (plan : Plan) (coords : ℕ)
-    (stale : (steps : List Stepped) (w : World) → IsRun plan coords steps w
-    → (k : ℕ) (o : Outcome) (why : Reason) → Happens plan w (event.Deliver k) o → o.seen ≡ seen.Ignored why → why ≡ Stale) where
-  run_stale : (steps : List Stepped) (w : World) → IsRun plan coords steps w → IgnoreOnlyStale (steps_lines [] steps)
-  run_stale steps w at_beginning = quiet [] refl
+module _ (plan : Plan) (next : Option Next) (coords : ℕ)
+    (stale : (steps : List Stepped) (w : GrownWorld) → IsGrownRun plan next coords steps w
+    → (k : ℕ) (o : Outcome) (why : Reason) → Happens plan next w (event.Deliver k) o → o.seen ≡ seen.Ignored why → why ≡ Stale) where
+  run_stale : (steps : List Stepped) (w : GrownWorld) → IsGrownRun plan next coords steps w → IgnoreOnlyStale (steps_lines [] steps)
+  run_stale steps w (at_first counted) = quiet [] refl
   run_stale steps w (steps_on {steps = before} {w = old} e o r h) =
       let step : Stepped = record { event = e; outcome = o } in
       let first = first_lines e o.seen in
-      let sends = send_lines (length old.sent + 1) (drop (length old.sent) o.world.sent) in
-      let rest = none_in_both reasons_of sends (answer_lines o.seen) (sends_quiet (length old.sent + 1) (drop (length old.sent) o.world.sent)) (answer_quiet o.seen) in
-      subst IgnoreOnlyStale (sym (run_lines plan coords before old r step))
-      (both (steps_lines [] before) (step_lines old.sent step) (run_stale before old r)
-      (both first (sends ++ answer_lines o.seen) (first_stale plan old e o (λ k. stale before old r k o) h) (quiet (sends ++ answer_lines o.seen) rest)))
+      let sends = send_lines (length (messages_of old.sent) + 1) (drop (length (messages_of old.sent)) (messages_of o.world.sent)) in
+      let rest = none_in_both reasons_of sends (answer_lines o.seen) (sends_quiet (length (messages_of old.sent) + 1) (drop (length (messages_of old.sent)) (messages_of o.world.sent))) (answer_quiet o.seen) in
+      subst IgnoreOnlyStale (sym (run_lines plan next coords before old r step))
+      (both (steps_lines [] before) (step_lines (messages_of old.sent) step) (run_stale before old r)
+      (both first (sends ++ answer_lines o.seen) (first_stale plan next old e o (λ k. stale before old r k o) h) (quiet (sends ++ answer_lines o.seen) rest)))
 
-  closing_quiet : (w : World) → NoneIgnored (closing_lines w)
+  closing_quiet : (w : GrownWorld) → NoneIgnored (closing_lines w)
   closing_quiet w =
       none_in_both reasons_of (map (λ e. Row e.0 e.1) (by_cell (cells_of w))) _ (none_in_map reasons_of (λ e. Row e.0 e.1) (λ e. refl) (by_cell (cells_of w)))
       (none_in_both reasons_of (map Pending (unanswered_of w)) (end_line w ∷ []) (none_in_map reasons_of Pending (λ id. refl) (unanswered_of w)) refl)
 
-  pub report_stale : (steps : List Stepped) (w : World) → IsRun plan coords steps w → IgnoreOnlyStale (report steps w)
+  pub report_stale : (steps : List Stepped) (w : GrownWorld) → IsGrownRun plan next coords steps w → IgnoreOnlyStale (report steps w)
   report_stale steps w r = both (steps_lines [] steps) (closing_lines w) (run_stale steps w r) (quiet (closing_lines w) (closing_quiet w))

@@ -1,12 +1,8 @@
--- Servers hold only cells that the program has
-use Rattle.std.proofs.Common.{◌≡◌, ◌≢◌, ℕ, ℤ, pos, zero, suc, ◌+◌, Bool, true, false, cond, List, [], ◌∷◌, ◌++◌, length, map, filter, Option, Some, None, Result, Ok, Err, sym, subst, ◌∙◌, ◌⊎◌, inl, inr, arith}
+-- What runs on a server leaves only cells that the program has
+use Rattle.std.proofs.Common.{◌≡◌, ◌≢◌, ℕ, ℤ, pos, zero, suc, Bool, true, false, cond, List, [], ◌∷◌, ◌++◌, length, map, filter, Option, Some, None, subst, ◌∙◌, ◌⊎◌, inl, inr, arith}
 use Rattle.std.proofs.lemmas.Bool.{cases_lt}
-use Rattle.std.specs.Prelude.{slice_get, slice_index_or, if◌then◌else◌}
+use Rattle.std.specs.Prelude.{slice_index_or, if◌then◌else◌}
 use Rattle.std.specs.List.{AllByRecursion, flat_map, range_with_len}
-use Rattle.roc_sequence.proofs.Members.{has_at}
-use Rattle.roc_sequence.proofs.Holds.{all_has, all_set}
-use Rattle.roc_base.specs.declared.node.Node.{Node}
-use Rattle.roc_base.specs.declared.node.Node.TheVariants.{Server, Coord}
 use Rattle.roc_rows.specs.declared.cell.Cell.{Cell}
 use Rattle.roc_rows.specs.Store.{Store, read, write, empty}
 use Rattle.roc_program.specs.Program.{Statement, Get, Set, Out, Piece, Procedure, Init, Workload}
@@ -18,6 +14,7 @@ use Rattle.roc_whole.specs.Run.{Progress, access_cell, after_statement, after_st
 use Rattle.roc_whole.specs.Serial.{init_cell, after_inits}
 use Rattle.roc_group.specs.GroupRun.{GroupCall, call, begin, group_run}
 use Rattle.roc_base.specs.declared.id.TxnId.{TxnId}
+use Rattle.roc_base.specs.declared.node.Shard.{Shard}
 use Rattle.roc_base.specs.Edge.{Dependency}
 use Rattle.roc_depgraph.specs.Deps.{list_of}
 use Rattle.roc_msg.specs.declared.msg.Msg.{Msg}
@@ -26,26 +23,14 @@ use Rattle.roc_msg.specs.declared.reason.Reason.TheVariants.{NotHere}
 use Rattle.roc_step.specs.declared.handled.Handled.{Handled}
 use Rattle.roc_step.specs.declared.handled.Handled.TheVariants.{Gone}
 use Rattle.roc_step.specs.declared.started.StartedGroup.{StartedGroup}
-use Rattle.roc_step.specs.Reads.{ReadStep}
 use Rattle.roc_step.specs.State.{ServerState, ServerStep, find_group, hearing, is_here, refused, ignored, answered}
-use Rattle.roc_protocol.specs.Beginnings as protocol
+use Rattle.roc_step.specs.First.{first_server}
 use Rattle.roc_step.specs.Start.{start_refusal, start_judged, start_taken, is_immediate_group}
 use Rattle.roc_step.specs.Runs.{group_call, buffered_here, run_group, run_groups, take_all}
 use Rattle.roc_step.specs.Lists.{decides, commit_refusal, after_commit, fetch_taken, settled_to, known_refusal, after_known, lists_settled}
 use Rattle.roc_step.specs.Step as server
 use Rattle.roc_step.specs.Step.{Findings}
-use Rattle.roc_protocol.specs.declared.event.Event.{Event}
-use Rattle.roc_protocol.specs.declared.event.Event.TheVariants.{Submit, Deliver, Tick, Stop}
-use Rattle.roc_views.specs.World.{World, mark_delivered}
-use Rattle.roc_protocol.specs.declared.event.Kept.{Kept}
-use Rattle.roc_views.specs.Happens.{Outcome, Submits, IsReceived, StopsIn, at_rest, unrecorded, recorded, restarted}
-use Rattle.roc_views.specs.Run.{Stepped, Transition, IsRun, at_beginning, steps_on}
 use Rattle.roc_protocol.proofs.ReadsHere.{for_read}
-use Rattle.roc_coord.specs.declared.handled.SubmitFault.{SubmitFault}
-use Rattle.roc_coord.specs.declared.handled.SubmitFault.TheVariants as fault
-use Rattle.roc_coord.specs.State.{CoordState}
-use Rattle.roc_coord.specs.Submit.{after_submit}
-use Rattle.roc_msg.specs.declared.outbox.Outgoing.{Outgoing}
 use Rattle.roc_report.specs.ReportLine.{IsCellOf}
 
 -- what is read of stores
@@ -79,12 +64,13 @@ column_cell : (program : Workload) (table integers column : ℕ) (place : ℤ) (
     → IsCellOf program (record { table = table; place = place; id = id; column = column })
 column_cell program table integers column place id is = record { table = is.has_table; column = is.has_column }
 
-module _ (laws : ReadLaws) (program : Workload) where
-  written_own : (store : Store) (cell : Cell) (v : ℤ) → IsCellOf program cell → HoldsOwn program store → HoldsOwn program (write store cell v)
-  written_own store cell v of own c not = laws.other store cell v c (λ e. not (subst (IsCellOf program) e of)) ∙ own c not
+-- the cells of a program are among those of another, which may be a grown one
+module _ (laws : ReadLaws) (program all : Workload) (wider : (c : Cell) → IsCellOf program c → IsCellOf all c) where
+  written_own : (store : Store) (cell : Cell) (v : ℤ) → IsCellOf program cell → HoldsOwn all store → HoldsOwn all (write store cell v)
+  written_own store cell v of own c not = laws.other store cell v c (λ e. not (subst (IsCellOf all) e (wider cell of))) ∙ own c not
 
-  body_own : (known own : List ℕ) (place : ℤ) (body : List Statement) (p : Progress) → IsBody program.tables known own body → HoldsOwn program p.store
-      → HoldsOwn program (after_statements place p body).store
+  body_own : (known own : List ℕ) (place : ℤ) (body : List Statement) (p : Progress) → IsBody program.tables known own body → HoldsOwn all p.store
+      → HoldsOwn all (after_statements place p body).store
   body_own known own place [] p is h = h
   body_own known own place (Get number from ∷ rest) p is h = body_own known (own ++ number ∷ []) place rest (after_statement place p (Get number from)) is.1 h
   body_own known own place (Set to v ∷ rest) p is h =
@@ -93,7 +79,7 @@ module _ (laws : ReadLaws) (program : Workload) where
   body_own known own place (Out v ∷ rest) p is h = body_own known own place rest (after_statement place p (Out v)) is.1 h
 
   abbrev KeepsOwn : Piece → Type 0
-  KeepsOwn piece = (p : Progress) → HoldsOwn program p.store → HoldsOwn program (after_piece p piece).store
+  KeepsOwn piece = (p : Progress) → HoldsOwn all p.store → HoldsOwn all (after_piece p piece).store
 
   piece_keeps : (known : List ℕ) (piece : Piece) → IsPiece program.tables known piece → KeepsOwn piece
   piece_keeps known piece is p h = body_own known [] (value piece.place p.environment) piece.body p is.body h
@@ -103,63 +89,63 @@ module _ (laws : ReadLaws) (program : Workload) where
   piece_at_keeps known (piece ∷ rest) zero are p h = piece_keeps known piece are.0 p h
   piece_at_keeps known (piece ∷ rest) (suc k) are p h = piece_at_keeps (known_behind known piece) rest k are.1 p h
 
-  pieces_keep : (known : List ℕ) (pieces : List Piece) → ArePieces program.tables known pieces → (numbers : List ℕ) (p : Progress) → HoldsOwn program p.store
-      → HoldsOwn program (after_pieces p (map (λ k. slice_index_or pieces k no_piece) numbers)).store
+  pieces_keep : (known : List ℕ) (pieces : List Piece) → ArePieces program.tables known pieces → (numbers : List ℕ) (p : Progress) → HoldsOwn all p.store
+      → HoldsOwn all (after_pieces p (map (λ k. slice_index_or pieces k no_piece) numbers)).store
   pieces_keep known pieces are [] p h = h
   pieces_keep known pieces are (k ∷ ks) p h = pieces_keep known pieces are ks (after_piece p (slice_index_or pieces k no_piece)) (piece_at_keeps known pieces k are p h)
 
-  procedures_keep : (procedures : List Procedure) (proc : ℕ) → AllByRecursion (IsProcedure program.tables) procedures → (numbers : List ℕ) (p : Progress) → HoldsOwn program p.store
-      → HoldsOwn program (after_pieces p (pieces_at (slice_index_or procedures proc no_procedure) numbers)).store
-  procedures_keep [] proc all numbers p h = pieces_keep [] [] tt numbers p h
-  procedures_keep (x ∷ xs) zero all numbers p h = pieces_keep (range_with_len 0 x.arguments) x.pieces all.0.pieces numbers p h
-  procedures_keep (x ∷ xs) (suc n) all numbers p h = procedures_keep xs n all.1 numbers p h
+  procedures_keep : (procedures : List Procedure) (proc : ℕ) → AllByRecursion (IsProcedure program.tables) procedures → (numbers : List ℕ) (p : Progress) → HoldsOwn all p.store
+      → HoldsOwn all (after_pieces p (pieces_at (slice_index_or procedures proc no_procedure) numbers)).store
+  procedures_keep [] proc fit numbers p h = pieces_keep [] [] tt numbers p h
+  procedures_keep (x ∷ xs) zero fit numbers p h = pieces_keep (range_with_len 0 x.arguments) x.pieces fit.0.pieces numbers p h
+  procedures_keep (x ∷ xs) (suc n) fit numbers p h = procedures_keep xs n fit.1 numbers p h
 
-  inits_own : (chosen : Init → Bool) (inits : List Init) (store : Store) → AllByRecursion (IsInit program.tables) inits → HoldsOwn program store
-      → HoldsOwn program (after_inits store (filter chosen inits))
-  inits_own chosen [] store all h = h
-  inits_own chosen (i ∷ inits) store all h = go (chosen i) (inits_own chosen inits)
+  inits_own : (chosen : Init → Bool) (inits : List Init) (store : Store) → AllByRecursion (IsInit program.tables) inits → HoldsOwn all store
+      → HoldsOwn all (after_inits store (filter chosen inits))
+  inits_own chosen [] store fit h = h
+  inits_own chosen (i ∷ inits) store fit h = go (chosen i) (inits_own chosen inits)
     where
-      go : (b : Bool) → ((s : Store) → AllByRecursion (IsInit program.tables) inits → HoldsOwn program s → HoldsOwn program (after_inits s (filter chosen inits)))
-          → HoldsOwn program (after_inits store (cond b (i ∷ filter chosen inits) (filter chosen inits)))
-      go true ih = ih (write store (init_cell i) i.value) all.1 (written_own store (init_cell i) i.value (column_cell program _ _ _ _ _ all.0.column) h)
-      go false ih = ih store all.1 h
+      go : (b : Bool) → ((s : Store) → AllByRecursion (IsInit program.tables) inits → HoldsOwn all s → HoldsOwn all (after_inits s (filter chosen inits)))
+          → HoldsOwn all (after_inits store (cond b (i ∷ filter chosen inits) (filter chosen inits)))
+      go true ih = ih (write store (init_cell i) i.value) fit.1 (written_own store (init_cell i) i.value (column_cell program _ _ _ _ _ fit.0.column) h)
+      go false ih = ih store fit.1 h
 
 -- ---- servers
 
-module _ (laws : ReadLaws) (plan : Plan) (ok : IsProgram plan.program) where
-  group_own : (c : GroupCall) (store : Store) → HoldsOwn plan.program store → HoldsOwn plan.program (group_run plan c store).store
-  group_own c store h = procedures_keep laws plan.program plan.program.procedures c.proc ok.procedures (group_of plan c.proc c.group).pieces (begin plan c store) h
+module _ (laws : ReadLaws) (plan : Plan) (ok : IsProgram plan.program) (all : Workload) (wider : (c : Cell) → IsCellOf plan.program c → IsCellOf all c) where
+  group_own : (c : GroupCall) (store : Store) → HoldsOwn all store → HoldsOwn all (group_run plan c store).store
+  group_own c store h = procedures_keep laws plan.program all wider plan.program.procedures c.proc ok.procedures (group_of plan c.proc c.group).pieces (begin plan c store) h
 
-  groups_own : (es : List StartedGroup) (s : ServerState) → HoldsOwn plan.program s.store → HoldsOwn plan.program (run_groups plan s es).store
+  groups_own : (es : List StartedGroup) (s : ServerState) → HoldsOwn all s.store → HoldsOwn all (run_groups plan s es).store
   groups_own [] s h = h
   groups_own (e ∷ es) s h = groups_own es (run_group plan s e) (group_own (group_call e) s.store h)
 
-  taken_own : (ts : List TxnId) (s : ServerState) → HoldsOwn plan.program s.store → HoldsOwn plan.program (take_all plan s ts).store
+  taken_own : (ts : List TxnId) (s : ServerState) → HoldsOwn all s.store → HoldsOwn all (take_all plan s ts).store
   taken_own [] s h = h
   taken_own (t ∷ ts) s h = taken_own ts (run_groups plan s (buffered_here plan t s.started)) (groups_own (buffered_here plan t s.started) s h)
 
-  either_own : (b : Bool) (s t : Store) → HoldsOwn plan.program s → HoldsOwn plan.program t → HoldsOwn plan.program (if b then s else t)
+  either_own : (b : Bool) (s t : Store) → HoldsOwn all s → HoldsOwn all t → HoldsOwn all (if b then s else t)
   either_own true s t h k = h
   either_own false s t h k = k
 
-  either_step : (b : Bool) (r q : ServerStep) → HoldsOwn plan.program r.state.store → HoldsOwn plan.program q.state.store → HoldsOwn plan.program (if b then r else q).state.store
+  either_step : (b : Bool) (r q : ServerStep) → HoldsOwn all r.state.store → HoldsOwn all q.state.store → HoldsOwn all (if b then r else q).state.store
   either_step true r q h k = h
   either_step false r q h k = k
 
-  start_own : (left_out reached : List TxnId) (s : ServerState) (id : TxnId) (c : GroupCall) (refusal : Option Handled) → HoldsOwn plan.program s.store
-      → HoldsOwn plan.program (start_judged plan left_out reached s id c refusal).state.store
+  start_own : (left_out reached : List TxnId) (s : ServerState) (id : TxnId) (c : GroupCall) (refusal : Option Handled) → HoldsOwn all s.store
+      → HoldsOwn all (start_judged plan left_out reached s id c refusal).state.store
   start_own left_out reached s id c (Some answer) h = h
   start_own left_out reached s id c None h = go (find_group id c.group s.started)
     where
-      go : (here : Option StartedGroup) → HoldsOwn plan.program (start_taken plan left_out reached s id c here).state.store
+      go : (here : Option StartedGroup) → HoldsOwn all (start_taken plan left_out reached s id c here).state.store
       go (Some e) = h
       go None = either_own (is_immediate_group plan c) (group_run plan c s.store).store s.store (group_own c s.store h) h
 
-  message_own : (s : ServerState) (f : Findings) (m : Msg) → HoldsOwn plan.program s.store → HoldsOwn plan.program (server.after_message plan s f m).state.store
+  pub message_own : (s : ServerState) (f : Findings) (m : Msg) → HoldsOwn all s.store → HoldsOwn all (server.after_message plan s f m).state.store
   message_own s f (msg.Start id proc group args inputs) h = start_own f.before f.reached s id (call proc group args inputs) (start_refusal plan s id (call proc group args inputs)) h
   message_own s f (msg.Commit id edges facts) h = go (commit_refusal s id edges facts)
     where
-      go : (refusal : Option Handled) → HoldsOwn plan.program (after_commit plan f.before f.components s id edges facts refusal).state.store
+      go : (refusal : Option Handled) → HoldsOwn all (after_commit plan f.before f.components s id edges facts refusal).state.store
       go (Some answer) = h
       go None = taken_own (flat_map (λ c. c) f.components) _ h
   message_own s f (msg.Fetch id asker) h =
@@ -167,12 +153,12 @@ module _ (laws : ReadLaws) (plan : Plan) (ok : IsProgram plan.program) where
       let unless_settled = either_step (is_here id s.started) taken (ignored s NotHere) (found (list_of id s.lists.known)) h in
       either_step _ (answered s (settled_to s id asker ∷ [])) (if is_here id s.started then taken else ignored s NotHere) h unless_settled
     where
-      found : (list : Option (List Dependency)) → HoldsOwn plan.program (fetch_taken s id asker list).state.store
+      found : (list : Option (List Dependency)) → HoldsOwn all (fetch_taken s id asker list).state.store
       found (Some edges) = h
       found None = h
   message_own s f (msg.Known id edges) h = go (known_refusal s id edges)
     where
-      go : (refusal : Option Handled) → HoldsOwn plan.program (after_known plan f.components s id edges refusal).state.store
+      go : (refusal : Option Handled) → HoldsOwn all (after_known plan f.components s id edges refusal).state.store
       go (Some answer) = h
       go None = taken_own (flat_map (λ c. c) f.components) _ h
   message_own s f (msg.Ended coord mark) h = h
@@ -180,56 +166,9 @@ module _ (laws : ReadLaws) (plan : Plan) (ok : IsProgram plan.program) where
       let heard = hearing s id.coord mark in
       either_step _ (decides plan heard (lists_settled s id mark f.components) f.components [] []) (refused heard Gone) (taken_own (flat_map (λ c. c) f.components) _ h) h
   message_own s f (msg.Read id round proc group args) h =
-      for_read plan s (record { id = id; round = round; proc = proc; group = group; args = args }) (λ (r : ServerStep). HoldsOwn plan.program r.state.store) (λ answer. h)
+      for_read plan s (record { id = id; round = round; proc = proc; group = group; args = args }) (λ (r : ServerStep). HoldsOwn all r.state.store) (λ answer. h)
   message_own s f m h = h
 
-  -- ---- worlds
-
-  abbrev OwnServers : List ServerState → Type 0
-  OwnServers servers = AllByRecursion (λ s. HoldsOwn plan.program s.store) servers
-
-  first_own : (a n : ℕ) → OwnServers (map (protocol.begun_server (protocol.first_beginning plan)) (range_with_len a n))
-  first_own a zero = tt
-  first_own a (suc n) = (inits_own laws plan.program _ plan.program.inits empty ok.inits (λ c not. laws.nothing c), first_own (a + 1) n)
-
-  own_there : (w : World) → OwnServers w.servers → (shard : ℕ) (s : ServerState) → slice_get w.servers shard ≡ Some s → HoldsOwn plan.program s.store
-  own_there w h shard s at = all_has (λ (s : ServerState). HoldsOwn plan.program s.store) s w.servers h (has_at w.servers shard s at)
-
-  step_own : (w : World) → OwnServers w.servers → (e : Option Event) (o : Outcome) → Transition plan w e o → OwnServers o.world.servers
-  step_own w h None o c = subst (λ (o : Outcome). OwnServers o.world.servers) (sym c) h
-  step_own w h (Some (Submit n proc args)) o (s, there, c) = go (after_submit plan s proc args).state (after_submit plan s proc args).sends (after_submit plan s proc args).answer c
-    where
-      go : (state : CoordState) (outs : List Outgoing) (answer : Result TxnId SubmitFault) → Submits w n proc args state outs answer o → OwnServers o.world.servers
-      go state outs (Ok id) e = subst (λ (o : Outcome). OwnServers o.world.servers) (sym e) h
-      go state outs (Err fault.Spent) e = subst (λ (o : Outcome). OwnServers o.world.servers) (sym e) h
-      go state outs (Err fault.Busy) e = subst (λ (o : Outcome). OwnServers o.world.servers) (sym e) h
-      go state outs (Err fault.NoProc) e = absurd e
-      go state outs (Err fault.Args) e = absurd e
-      go state outs (Err fault.NoMemory) e = absurd e
-  step_own w h (Some (Deliver k)) o (m, some, there, c) = go m.to c
-    where
-      go : (to : Node) → IsReceived plan (mark_delivered w k) m.msg to o → OwnServers o.world.servers
-      go (Server shard) served =
-          let step = served.handles in
-          let own : HoldsOwn plan.program served.state.store = own_there w h shard.0 served.state served.there in
-          let after : HoldsOwn plan.program served.step.state.store = subst (λ (r : ServerStep). HoldsOwn plan.program r.state.store) (sym step.is) (message_own served.state step.findings m.msg own) in
-          subst (λ (o : Outcome). OwnServers o.world.servers) (sym served.is) (all_set (λ (s : ServerState). HoldsOwn plan.program s.store) w.servers shard.0 served.step.state h after)
-      go (Coord n) (s, at, e) = subst (λ (o : Outcome). OwnServers o.world.servers) (sym e) h
-  step_own w h (Some (Tick (Server shard))) o (s, v, there, keeps, e) =
-      subst (λ (o : Outcome). OwnServers o.world.servers) (sym e) (all_set (λ (s : ServerState). HoldsOwn plan.program s.store) w.servers shard.0 s h (own_there w h shard.0 s there))
-  step_own w h (Some (Tick (Coord n))) o (s, there, e) = subst (λ (o : Outcome). OwnServers o.world.servers) (sym e) h
-  step_own w h (Some (Stop shard during)) o x = subst (λ (o : Outcome). OwnServers o.world.servers) (sym x.is) (go during x.before x.step x.reads x.stops)
-    where
-      own : HoldsOwn plan.program x.state.store
-      own = own_there w h shard.0 x.state x.there
-
-      go : (at : Option (ℕ × Kept)) (before : World) (r : ServerStep) (q : ReadStep) → StopsIn plan w shard.0 x.state x.viewing at before r q → OwnServers (restarted before shard.0 r q).world.servers
-      go at before r q at_rest = all_set (λ (s : ServerState). HoldsOwn plan.program s.store) w.servers shard.0 x.state h own
-      go at before r q (unrecorded k m sent) = all_set (λ (s : ServerState). HoldsOwn plan.program s.store) w.servers shard.0 x.state h own
-      go at before r q (recorded k many m whole reads sent handles answers) =
-          let after : HoldsOwn plan.program whole.state.store = subst (λ (r : ServerStep). HoldsOwn plan.program r.state.store) (sym handles.is) (message_own x.state handles.findings m.msg own) in
-          all_set (λ (s : ServerState). HoldsOwn plan.program s.store) w.servers shard.0 whole.state h after
-
-  pub run_own : (coords : ℕ) (steps : List Stepped) (w : World) → IsRun plan coords steps w → OwnServers w.servers
-  run_own coords steps w at_beginning = first_own 0 plan.program.shards
-  run_own coords steps w (steps_on {steps = before} {w = v} e o r h) = step_own v (run_own coords before v r) e o h
+  -- a server at the start
+  pub start_holds : (shard : Shard) → HoldsOwn all (first_server plan shard).store
+  start_holds shard = inits_own laws plan.program all wider _ plan.program.inits empty ok.inits (λ c not. laws.nothing c)

@@ -1,5 +1,6 @@
 -- The cells that a report shows, where it shows none as pending
-use Rattle.std.proofs.Common.{◌≡◌, ◌≢◌, ◌↔◌, ℕ, ℤ, pos, zero, suc, ◌+◌, ◌<◌, Bool, true, false, cond, List, [], ◌∷◌, ◌++◌, Option, Some, None, length, map, refl, sym, ap, subst, ◌∙◌, ◌⊎◌, inl, inr, arith}
+use Rattle.std.proofs.Common.{◌≡◌, ◌≢◌, ◌↔◌, ℕ, ℤ, pos, zero, suc, ◌+◌, ◌<◌, Bool, true, false, cond, List, [], ◌∷◌, ◌++◌, Option, Some, None, length, map, refl, sym, ap, subst, ◌∙◌, ◌⊎◌, inl}
+use Rattle.std.proofs.Common.{inr, arith}
 use Rattle.std.proofs.lemmas.Bool.{cases_eq}
 use Rattle.std.proofs.lemmas.Grind.{flat_map-append}
 use Rattle.std.proofs.lemmas.List.{append-nil}
@@ -15,15 +16,16 @@ use Rattle.roc_rows.specs.Cells.{cell_cmp}
 use Rattle.roc_rows.specs.Store.{Store, read, entries}
 use Rattle.roc_msg.specs.declared.msg.Envelope.{Envelope}
 use Rattle.roc_plan.specs.Groups.{Plan, shard_of}
-use Rattle.roc_step.specs.State.{ServerState}
-use Rattle.roc_coord.specs.State.{CoordState}
+use Rattle.roc_grown.specs.Server.{GrownServerState}
+use Rattle.roc_grown.specs.Coord.{GrownCoordState}
 use Rattle.roc_audit.specs.History.{WasSubmitted, WasAnswered}
-use Rattle.roc_protocol.specs.declared.event.Event.{Event}
-use Rattle.roc_protocol.specs.declared.event.Event.TheVariants as event
-use Rattle.roc_protocol.specs.declared.event.Seen.{Seen}
-use Rattle.roc_protocol.specs.declared.event.Seen.TheVariants as seen
-use Rattle.roc_views.specs.World.{World}
-use Rattle.roc_views.specs.Run.{Stepped}
+use Rattle.roc_growth.specs.declared.event.Event.{Event}
+use Rattle.roc_growth.specs.declared.event.Event.TheVariants as event
+use Rattle.roc_growth.specs.declared.event.Seen.{Seen}
+use Rattle.roc_growth.specs.declared.event.Seen.TheVariants as seen
+use Rattle.roc_growth.specs.World.{GrownWorld}
+use Rattle.roc_growth.specs.Run.{Stepped}
+use Rattle.roc_growth.specs.Quiet.{messages_of}
 use Rattle.roc_world.specs.Reads.{cells_of, unanswered_of}
 use Rattle.roc_report.specs.Line.{Row, Pending}
 use Rattle.roc_replay.specs.Cells.{put, by_cell}
@@ -83,19 +85,26 @@ cells_in-first : (e : Option Event) (s : Seen) → cells_in (first_lines e s) �
 cells_in-first None s = refl
 cells_in-first (Some (event.Tick node)) s = refl
 cells_in-first (Some (event.Stop shard during)) s = refl
+cells_in-first (Some (event.Drain coord)) s = refl
 cells_in-first (Some (event.Submit coord proc args)) (seen.Submitted id) = refl
 cells_in-first (Some (event.Submit coord proc args)) seen.Spent = refl
 cells_in-first (Some (event.Submit coord proc args)) seen.Busy = refl
+cells_in-first (Some (event.Submit coord proc args)) seen.Draining = refl
+cells_in-first (Some (event.Submit coord proc args)) seen.NoProc = refl
 cells_in-first (Some (event.Submit coord proc args)) seen.Done = refl
 cells_in-first (Some (event.Submit coord proc args)) (seen.Answered id reply) = refl
 cells_in-first (Some (event.Submit coord proc args)) seen.Gone = refl
+cells_in-first (Some (event.Submit coord proc args)) seen.Skipped = refl
 cells_in-first (Some (event.Submit coord proc args)) (seen.Ignored reason) = refl
 cells_in-first (Some (event.Deliver k)) (seen.Submitted id) = refl
 cells_in-first (Some (event.Deliver k)) seen.Spent = refl
 cells_in-first (Some (event.Deliver k)) seen.Busy = refl
+cells_in-first (Some (event.Deliver k)) seen.Draining = refl
+cells_in-first (Some (event.Deliver k)) seen.NoProc = refl
 cells_in-first (Some (event.Deliver k)) seen.Done = refl
 cells_in-first (Some (event.Deliver k)) (seen.Answered id reply) = refl
 cells_in-first (Some (event.Deliver k)) seen.Gone = refl
+cells_in-first (Some (event.Deliver k)) seen.Skipped = refl
 cells_in-first (Some (event.Deliver k)) (seen.Ignored reason) = refl
 
 cells_in-answer : (s : Seen) → cells_in (answer_lines s) ≡ []
@@ -103,17 +112,20 @@ cells_in-answer (seen.Answered id reply) = refl
 cells_in-answer (seen.Submitted id) = refl
 cells_in-answer seen.Spent = refl
 cells_in-answer seen.Busy = refl
+cells_in-answer seen.Draining = refl
+cells_in-answer seen.NoProc = refl
 cells_in-answer seen.Done = refl
 cells_in-answer seen.Gone = refl
+cells_in-answer seen.Skipped = refl
 cells_in-answer (seen.Ignored reason) = refl
 
 cells_in-steps : (before : List Envelope) (steps : List Stepped) → cells_in (steps_lines before steps) ≡ []
 cells_in-steps before [] = refl
 cells_in-steps before (step ∷ rest) =
-    none_in_both cell_of (step_lines before step) (steps_lines step.outcome.world.sent rest)
+    none_in_both cell_of (step_lines before step) (steps_lines (messages_of step.outcome.world.sent) rest)
     (none_in_both cell_of (first_lines step.event step.outcome.seen) _ (cells_in-first step.event step.outcome.seen)
-    (none_in_both cell_of (send_lines (length before + 1) (drop (length before) step.outcome.world.sent)) _ (cells_in-sends (length before + 1) (drop (length before) step.outcome.world.sent)) (cells_in-answer step.outcome.seen)))
-    (cells_in-steps step.outcome.world.sent rest)
+    (none_in_both cell_of (send_lines (length before + 1) (drop (length before) (messages_of step.outcome.world.sent))) _ (cells_in-sends (length before + 1) (drop (length before) (messages_of step.outcome.world.sent))) (cells_in-answer step.outcome.seen)))
+    (cells_in-steps (messages_of step.outcome.world.sent) rest)
 
 cells_in-rows : (es : List (Cell × ℤ)) → cells_in (map (λ e. Row e.0 e.1) es) ≡ es
 cells_in-rows [] = refl
@@ -123,7 +135,7 @@ cells_in-pending : (ids : List TxnId) → cells_in (map Pending ids) ≡ []
 cells_in-pending [] = refl
 cells_in-pending (id ∷ ids) = cells_in-pending ids
 
-report_cells : (steps : List Stepped) (w : World) → cells_in (report steps w) ≡ by_cell (cells_of w)
+report_cells : (steps : List Stepped) (w : GrownWorld) → cells_in (report steps w) ≡ by_cell (cells_of w)
 report_cells steps w =
     let rows = map (λ (e : Cell × ℤ). Row e.0 e.1) (by_cell (cells_of w)) in
     let behind = map Pending (unanswered_of w) ++ end_line w ∷ [] in
@@ -135,7 +147,7 @@ report_cells steps w =
     ∙ cells_in-rows (by_cell (cells_of w)))
 
 -- where it shows none as pending, none is
-none_pending : (steps : List Stepped) (w : World) → pending_in (report steps w) ≡ [] → (t : TxnId) → ¬ Has t (unanswered_of w)
+none_pending : (steps : List Stepped) (w : GrownWorld) → pending_in (report steps w) ≡ [] → (t : TxnId) → ¬ Has t (unanswered_of w)
 none_pending steps w none t h =
     let rows = map (λ (e : Cell × ℤ). Row e.0 e.1) (by_cell (cells_of w)) in
     let here = has_left (Pending t) (map Pending (unanswered_of w)) (end_line w ∷ []) (has_map Pending t (unanswered_of w) h) in
@@ -145,12 +157,12 @@ none_pending steps w none t h =
 
 -- ---- what the cells of a world are
 
-module _ (plan : Plan) (w : World)
-    (servers : (n : ℕ) → n < plan.program.shards → (s : ServerState) × (slice_get w.servers n ≡ Some s))
+module _ (plan : Plan) (w : GrownWorld)
+    (servers : (n : ℕ) → n < plan.program.shards → (s : GrownServerState) × (slice_get w.servers n ≡ Some s))
     (placed : (place : ℤ) → shard_of plan place < plan.program.shards)
-    (apart : (shard : Shard) (s : ServerState) → slice_get w.servers shard.0 ≡ Some s → (x : Cell) → shard_of plan x.place ≢ shard.0 → read s.store x ≡ pos 0)
+    (apart : (shard : Shard) (s : GrownServerState) → slice_get w.servers shard.0 ≡ Some s → (x : Cell) → shard_of plan x.place ≢ shard.0 → read s.core.store x ≡ pos 0)
     (exact : (s : Store) (x : Cell) (v : ℤ) → Contains (entries s) (x, v) ↔ ((v ≢ pos 0) × (read s x ≡ v)))
-    (all : Store) (serial : (x : Cell) (s : ServerState) → slice_get w.servers (shard_of plan x.place) ≡ Some s → read s.store x ≡ read all x) where
+    (all : Store) (serial : (x : Cell) (s : GrownServerState) → slice_get w.servers (shard_of plan x.place) ≡ Some s → read s.core.store x ≡ read all x) where
   -- a place in a list
   place_in : {A : Type 0} (xs : List A) (a : A) → Has a xs → (n : ℕ) × (slice_get xs n ≡ Some a)
   place_in [] a h = absurd h
@@ -159,9 +171,9 @@ module _ (plan : Plan) (w : World)
 
   from_cells : (x : Cell) (v : ℤ) → Has (x, v) (cells_of w) → (v ≢ pos 0) × (read all x ≡ v)
   from_cells x v h =
-      let a = from_has_flat_map (λ (s : ServerState). entries s.store) (x, v) w.servers h in
+      let a = from_has_flat_map (λ (s : GrownServerState). entries s.core.store) (x, v) w.servers h in
       let at = place_in w.servers a.0 a.1 in
-      let e = (exact a.0.store x v).0 (has_contains (entries a.0.store) (x, v) a.2) in
+      let e = (exact a.0.core.store x v).0 (has_contains (entries a.0.core.store) (x, v) a.2) in
       elim (cases_eq (shard_of plan x.place) at.0) [
         | inl same ↦ (e.0, sym (serial x a.0 (subst (λ n. slice_get w.servers n ≡ Some a.0) (sym same) at.1)) ∙ e.1)
         | inr other ↦ absurd (e.0 (sym e.1 ∙ apart (record { 0 = at.0 }) a.0 at.1 x other))
@@ -170,7 +182,7 @@ module _ (plan : Plan) (w : World)
   to_cells : (x : Cell) (v : ℤ) → v ≢ pos 0 → read all x ≡ v → Has (x, v) (cells_of w)
   to_cells x v n e =
       let s = servers (shard_of plan x.place) (placed x.place) in
-      has_flat_map (λ (s : ServerState). entries s.store) (x, v) s.0 w.servers (has_at w.servers (shard_of plan x.place) s.0 s.1) (contains_has (entries s.0.store) (x, v) ((exact s.0.store x v).1 (n, serial x s.0 s.1 ∙ e)))
+      has_flat_map (λ (s : GrownServerState). entries s.core.store) (x, v) s.0 w.servers (has_at w.servers (shard_of plan x.place) s.0 s.1) (contains_has (entries s.0.core.store) (x, v) ((exact s.0.core.store x v).1 (n, serial x s.0 s.1 ∙ e)))
 
   pub shown_cells : (steps : List Stepped) (x : Cell) (v : ℤ) → Has (x, v) (cells_in (report steps w)) ↔ ((v ≢ pos 0) × (read all x ≡ v))
   shown_cells steps x v = (
@@ -179,12 +191,12 @@ module _ (plan : Plan) (w : World)
   )
 
 -- where none is shown as pending, each that was submitted was answered
-pub all_answered : (steps : List Stepped) (w : World) → pending_in (report steps w) ≡ []
-    → ((t : TxnId) → WasSubmitted w.history t → (c : CoordState) × (slice_get w.coords t.coord ≡ Some c) × (Has t c.unanswered ⊎ ((reply : List ℤ) × WasAnswered w.history t reply)))
+pub all_answered : (steps : List Stepped) (w : GrownWorld) → pending_in (report steps w) ≡ []
+    → ((t : TxnId) → WasSubmitted w.history t → (c : GrownCoordState) × (slice_get w.coords t.coord ≡ Some c) × (Has t c.core.unanswered ⊎ ((reply : List ℤ) × WasAnswered w.history t reply)))
     → (t : TxnId) → WasSubmitted w.history t → (reply : List ℤ) × WasAnswered w.history t reply
 all_answered steps w none kept t h =
     let k = kept t h in
     elim k.2 [
-      | inl p ↦ absurd (none_pending steps w none t (has_flat_map (λ (c : CoordState). c.unanswered) t k.0 w.coords (has_at w.coords t.coord k.0 k.1) p))
+      | inl p ↦ absurd (none_pending steps w none t (has_flat_map (λ (c : GrownCoordState). c.core.unanswered) t k.0 w.coords (has_at w.coords t.coord k.0 k.1) p))
       | inr a ↦ a
     ]

@@ -1,14 +1,16 @@
 //! What the lines of a schedule ask for, and which line does not fit the plan.
 ghost use Rattle.std.specs.Prelude.{◌≡◌, IfOk, IfErr, Some};
 ghost use Rattle.std.specs.List.{AllByRecursion};
+ghost use Rattle.std.specs.Option.{option_copied};
 ghost use Rattle.roc_program.specs.LookUps.{procedure_named};
 ghost use Rattle.roc_sched.specs.Each.{each};
 ghost use Rattle.roc_sched.specs.Schedule.{item_of};
-ghost use Rattle.roc_replay.specs.BoundLine.{played_forms, kept_record, stop_during, submission_of, wanted_by, asked_by, IsScheduleOf, WantedFits};
+ghost use Rattle.roc_replay.specs.BoundLine.{coords_of, played_forms, kept_record, stop_during, submission_of, wanted_by, asked_by, IsScheduleOf, WantedFits};
 ghost use Rattle.roc_replay.specs.Inner.Reading.{GivesAtLine, IsUnfitBy, IsBlamed};
 
 use crate::{BoundLine, Wanted};
 use roc_base::Nums;
+use roc_epoch::{Next, last_plan};
 use roc_plan::Plan;
 use roc_sched::laws::lines_fit;
 use roc_sched::{Act, Forms, Line, TextFault, What, parse_schedule};
@@ -16,13 +18,23 @@ use roc_sequence::Sequence;
 use roc_world::{Event, Kept};
 use std::alloc::Global;
 
-// The forms of lines that are played: those of any schedule, and stops of servers.
-fn played_forms() -> Forms
-    ensures { result ≡ played_forms }
+// How many coordinators there are for the next file, where there is one.
+fn coords_of(next: Option<&Next>) -> Option<u16>
+    ensures { result ≡ coords_of (option_copied next.entry) }
+{
+    match next {
+        Some(next) => Some(next.coords),
+        None => None,
+    }
+}
+
+// The forms of lines that are played: those of any schedule, stops of servers, and drains of coordinators where there is a next file.
+fn played_forms(next: Option<&Next>) -> Forms
+    ensures { result ≡ played_forms (option_copied next.entry) }
 {
     Forms {
         stops: true,
-        coords: None,
+        coords: coords_of(next),
     }
 }
 
@@ -90,10 +102,7 @@ fn wanted_by(plan: &Plan, line: u32, act: &Act) -> Result<Wanted, TextFault>
             shard: *shard,
             during: stop_during(during),
         })),
-        Act::Drain(_) => Err(TextFault::At {
-            line,
-            what: What::Word,
-        }),
+        Act::Drain(coord) => Ok(Wanted::Event(Event::Drain(*coord))),
     }
 }
 
@@ -123,24 +132,26 @@ fn all_asked(alloc: Global, plan: &Plan, lines: &[Line]) -> Result<Sequence<Boun
     Ok(asked)
 }
 
-/// What the lines of a schedule of a plan ask for.
+/// What the lines of a schedule ask for, by the last of the files.
 ///
-/// Of bytes that are no schedule the first fault is named, and of a schedule the first line that does not fit the plan.
+/// Of bytes that are no schedule the first fault is named, and of a schedule the first line that does not fit that file's plan.
 pub fn parse_asked(
     alloc: Global,
     plan: &Plan,
+    next: Option<&Next>,
     text: &[u8],
 ) -> Result<Sequence<BoundLine>, TextFault>
-    ensures found { IfOk result (λ asked. IsScheduleOf plan.now.program text.now asked) }
-    ensures fits { IfOk result (λ asked. AllByRecursion (λ one. WantedFits plan.now.program one.wanted) asked) }
-    ensures fault { IfErr result (IsBlamed plan.now.program text.now) }
+    ensures found { IfOk result (λ asked. IsScheduleOf plan.now (option_copied next.entry) text.now asked) }
+    ensures fits { IfOk result (λ asked. AllByRecursion (λ one. WantedFits plan.now (option_copied next.entry) one.wanted) asked) }
+    ensures fault { IfErr result (IsBlamed plan.now (option_copied next.entry) text.now) }
 {
     lines_fit();
-    let lines = match parse_schedule(alloc, text, plan.workload().shards(), played_forms()) {
+    let last = last_plan(plan, next);
+    let lines = match parse_schedule(alloc, text, last.workload().shards(), played_forms(next)) {
         Ok(lines) => lines,
         Err(fault) => return Err(fault),
     };
-    match all_asked(alloc, plan, &lines) {
+    match all_asked(alloc, last, &lines) {
         Ok(asked) => Ok(asked),
         Err(fault) => Err(fault),
     }

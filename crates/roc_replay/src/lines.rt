@@ -71,7 +71,13 @@ fn push_first(
                 },
                 Seen::Spent => ReportLine::Spent(*coord),
                 Seen::Busy => ReportLine::Busy(*coord),
-                Seen::Done | Seen::Answered { .. } | Seen::Gone | Seen::Ignored(_) => {
+                Seen::Draining => ReportLine::Draining(*coord),
+                Seen::NoProc => ReportLine::NoProc(*coord),
+                Seen::Done
+                | Seen::Answered { .. }
+                | Seen::Gone
+                | Seen::Skipped
+                | Seen::Ignored(_) => {
                     return Ok(());
                 }
             };
@@ -88,6 +94,7 @@ fn push_first(
             workload,
             &ReportLine::Stopped(*shard, during_shown(during)),
         ),
+        Event::Drain(coord) => append(alloc, text, workload, &ReportLine::Drain(*coord)),
     }
 }
 
@@ -102,7 +109,7 @@ fn during_shown(during: &Option<(u64, Kept)>) -> Option<(u64, Option<u32>)>
     }
 }
 
-// Adds that a message came too late, or why it was ignored, if it was not taken.
+// Adds that a message was skipped or came too late, or why it was ignored, if it was not taken.
 fn push_untaken(
     alloc: Global,
     text: &mut Vec<u8>,
@@ -115,9 +122,14 @@ fn push_untaken(
     match seen {
         Seen::Ignored(reason) => append(alloc, text, workload, &ReportLine::Ignored(*reason)),
         Seen::Gone => append(alloc, text, workload, &ReportLine::Gone),
-        Seen::Submitted(_) | Seen::Spent | Seen::Busy | Seen::Done | Seen::Answered { .. } => Ok(
-            (),
-        ),
+        Seen::Skipped => append(alloc, text, workload, &ReportLine::Skipped),
+        Seen::Submitted(_)
+        | Seen::Spent
+        | Seen::Busy
+        | Seen::Draining
+        | Seen::NoProc
+        | Seen::Done
+        | Seen::Answered { .. } => Ok(()),
     }
 }
 
@@ -160,8 +172,11 @@ fn push_answer(
         Seen::Submitted(_)
         | Seen::Spent
         | Seen::Busy
+        | Seen::Draining
+        | Seen::NoProc
         | Seen::Done
         | Seen::Gone
+        | Seen::Skipped
         | Seen::Ignored(_) => Ok(()),
     }
 }

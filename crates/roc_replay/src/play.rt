@@ -1,11 +1,15 @@
 //! The lines of a schedule, one after another.
 ghost use Rattle.std.specs.Prelude.{◌≡◌, ℕ, ◌≤◌, List, length, Some, IfOk, OnOk, false};
 ghost use Rattle.std.specs.List.{AllByRecursion};
+ghost use Rattle.std.specs.Option.{option_copied};
 ghost use Rattle.roc_io.specs.Cause.{HasCause};
-ghost use Rattle.roc_views.specs.Fits.{FitsWorld};
-ghost use Rattle.roc_views.specs.World.{first_world};
-ghost use Rattle.roc_views.specs.Run.{IsEventOf};
-ghost use Rattle.roc_replay.specs.BoundLine.{IsScheduleOf, WantedFits, coordinators, chosen, event_in};
+ghost use Rattle.roc_plan.specs.Accepted.{IsAccepted};
+ghost use Rattle.roc_epoch.specs.Files.{IsNextOf};
+ghost use Rattle.roc_growth.specs.Fits.{FitsGrown};
+ghost use Rattle.roc_growth.specs.World.{first_grown_world};
+ghost use Rattle.roc_growth.specs.Run.{AreCoordsOf, IsEventOf};
+ghost use Rattle.roc_growth.specs.Quiet.{messages_of};
+ghost use Rattle.roc_replay.specs.BoundLine.{IsScheduleOf, WantedFits, coordinators, last_program, chosen, event_in};
 ghost use Rattle.roc_replay.specs.Inner.Closed.{IsClosed, is_sent_to, asks_unsent, wants_unsent};
 ghost use Rattle.roc_replay.specs.Ended.{is_sink_fault};
 ghost use Rattle.roc_replay.specs.Inner.Ends.{IsEnd};
@@ -13,10 +17,11 @@ ghost use Rattle.roc_replay.specs.Played.{IsPlayedLine};
 ghost use Rattle.roc_replay.specs.Report.{first_lines, busy_in};
 
 use crate::closing::last_lines;
-use crate::laws::{lines_name_parts, report_explains_itself};
+use crate::laws::{files_are_told_apart, lines_name_parts, report_explains_itself};
 use crate::lines::{event_text, nothing_text};
 use crate::{BoundLine, Ended, Wanted};
 use roc_base::{NoMemory, Node, Shard};
+use roc_epoch::{Next, last_plan};
 use roc_io::{Sink, Written};
 use roc_msg::Envelope;
 use roc_plan::Plan;
@@ -25,37 +30,65 @@ use roc_sched::What;
 use roc_world::{Event, Seen, World};
 use std::alloc::Global;
 
-/// How many coordinators there are.
-const COORDINATORS: u16 = 16;
+// How many coordinators there are.
+fn coordinators(next: Option<&Next>) -> u16
+    ensures count { result ≡ coordinators (option_copied next.entry) }
+    ensures for_next { AreCoordsOf (option_copied next.entry) result }
+{
+    match next {
+        Some(next) => next.coords,
+        None => 16,
+    }
+}
+
+// Each plan is accepted. It does nothing.
+fn plans_are_accepted(plan: &Plan)
+    ensures { IsAccepted plan.now }
+{
+    let _workload = plan.workload();
+}
 
 /// Plays the lines of a schedule, one after another, from the first world on. The sink takes the
 /// lines of each event in one piece, and the closing lines in one piece at the end.
-pub fn play<S: Sink>(alloc: Global, plan: &Plan, lines: &[BoundLine], sink: &mut S) -> Ended
-    requires fits { AllByRecursion (λ line. WantedFits plan.now.program line.wanted) lines.now }
-    ensures ends { (schedule : List ℕ) → IsScheduleOf plan.now.program schedule lines.now → IsEnd plan.now schedule result (S.taken sink.old) (S.taken sink.new) }
+pub fn play<S: Sink>(
+    alloc: Global,
+    plan: &Plan,
+    next: Option<&Next>,
+    lines: &[BoundLine],
+    sink: &mut S,
+) -> Ended
+    requires next { IsNextOf plan.now (option_copied next) }
+    requires fits { AllByRecursion (λ line. WantedFits plan.now (option_copied next) line.wanted) lines.now }
+    ensures ends { (schedule : List ℕ) → IsScheduleOf plan.now (option_copied next.entry) schedule lines.now
+        → IsEnd plan.now (option_copied next.entry) schedule result (S.taken sink.old) (S.taken sink.new) }
     ensures sink { HasCause (is_sink_fault result) (S.faults sink.old) (S.faults sink.new) }
 {
-    let Ok(mut world) = World::new(alloc, plan, COORDINATORS) else {
+    let Ok(mut world) = World::new(alloc, plan, next, coordinators(next)) else {
         return Ended::NoMemory;
     };
-    play_lines(alloc, plan, lines, &mut world, sink)
+    play_lines(alloc, plan, next, lines, &mut world, sink)
 }
 
 // The same, from the first world.
 fn play_lines<S: Sink>(
     alloc: Global,
     plan: &Plan,
+    next: Option<&Next>,
     lines: &[BoundLine],
     world: &mut World,
     sink: &mut S,
 ) -> Ended
-    requires fits { AllByRecursion (λ line. WantedFits plan.now.program line.wanted) lines.now }
-    requires first { world.old ≡ first_world plan.now coordinators }
-    requires world { FitsWorld plan.now world.old }
-    ensures ends { (schedule : List ℕ) → IsScheduleOf plan.now.program schedule lines.now → IsEnd plan.now schedule result (S.taken sink.old) (S.taken sink.new) }
+    requires next { IsNextOf plan.now (option_copied next) }
+    requires fits { AllByRecursion (λ line. WantedFits plan.now (option_copied next) line.wanted) lines.now }
+    requires first { world.old ≡ first_grown_world plan.now (coordinators (option_copied next)) }
+    requires world { FitsGrown plan.now (option_copied next) world.old }
+    ensures ends { (schedule : List ℕ) → IsScheduleOf plan.now (option_copied next.entry) schedule lines.now
+        → IsEnd plan.now (option_copied next.entry) schedule result (S.taken sink.old) (S.taken sink.new) }
     ensures sink { HasCause (is_sink_fault result) (S.faults sink.old) (S.faults sink.new) }
 {
+    plans_are_accepted(plan);
     report_explains_itself();
+    files_are_told_apart();
     lines_name_parts();
     let mut busy = 0;
     for line in lines {
@@ -65,7 +98,7 @@ fn play_lines<S: Sink>(
                 what: What::Message,
             };
         }
-        let Ok(played) = play_line(alloc, plan, world, &line.wanted) else {
+        let Ok(played) = play_line(alloc, plan, next, world, &line.wanted) else {
             return Ended::NoMemory;
         };
         busy += played.busy;
@@ -73,7 +106,7 @@ fn play_lines<S: Sink>(
             return Ended::SinkFault;
         }
     }
-    close(alloc, plan.workload(), world, busy, sink)
+    close(alloc, last_plan(plan, next).workload(), world, busy, sink)
 }
 
 // Writes the closing lines.
@@ -116,7 +149,7 @@ fn asks_unsent(event: &Event, sent: &[Envelope]) -> bool
             Some((number, _)) => !is_sent_to(*shard, *number, sent),
             None => false,
         },
-        Event::Submit { .. } | Event::Tick(_) => false,
+        Event::Submit { .. } | Event::Tick(_) | Event::Drain(_) => false,
     }
 }
 
@@ -147,21 +180,23 @@ struct Played {
 fn play_line(
     alloc: Global,
     plan: &Plan,
+    next: Option<&Next>,
     world: &mut World,
     wanted: &Wanted,
 ) -> Result<Played, NoMemory>
-    requires world { FitsWorld plan.now world.old }
-    requires coords { length world.old.coords ≡ coordinators }
-    requires fits { WantedFits plan.now.program wanted.now }
-    requires sent { wants_unsent wanted.now world.old.sent ≡ false }
-    ensures played { IfOk result (λ played. IsPlayedLine plan.now (event_in world.old wanted.now) world.old world.new played.text.items played.busy) }
-    ensures fits { OnOk result (FitsWorld plan.now world.new) }
-    ensures coords { OnOk result (length world.new.coords ≡ coordinators) }
+    requires next { IsNextOf plan.now (option_copied next) }
+    requires world { FitsGrown plan.now (option_copied next) world.old }
+    requires coords { length world.old.coords ≡ coordinators (option_copied next) }
+    requires fits { WantedFits plan.now (option_copied next) wanted.now }
+    requires sent { wants_unsent wanted.now (messages_of world.old.sent) ≡ false }
+    ensures played { IfOk result (λ played. IsPlayedLine plan.now (option_copied next.entry) (event_in world.old wanted.now) world.old world.new played.text.items played.busy) }
+    ensures fits { OnOk result (FitsGrown plan.now (option_copied next.entry) world.new) }
+    ensures coords { OnOk result (length world.new.coords ≡ coordinators (option_copied next.entry)) }
     ensures few { IfOk result (λ played. played.busy ≤ 1) }
 {
     match wanted {
-        Wanted::Event(event) => play_event(alloc, plan, world, event),
-        Wanted::Any(place) => play_any(alloc, plan, world, *place),
+        Wanted::Event(event) => play_event(alloc, plan, next, world, event),
+        Wanted::Any(place) => play_any(alloc, plan, next, world, *place),
     }
 }
 
@@ -177,17 +212,24 @@ fn chosen(place: u32, undelivered: &[u64]) -> Option<Event>
 }
 
 // Delivers the message at a place among those that were never delivered, counted round. Where there is none, nothing happens.
-fn play_any(alloc: Global, plan: &Plan, world: &mut World, place: u32) -> Result<Played, NoMemory>
-    requires fits { FitsWorld plan.now world.old }
-    ensures played { IfOk result (λ played. IsPlayedLine plan.now (chosen place world.old.undelivered) world.old world.new played.text.items played.busy) }
-    ensures fits { OnOk result (FitsWorld plan.now world.new) }
+fn play_any(
+    alloc: Global,
+    plan: &Plan,
+    next: Option<&Next>,
+    world: &mut World,
+    place: u32,
+) -> Result<Played, NoMemory>
+    requires next { IsNextOf plan.now (option_copied next) }
+    requires fits { FitsGrown plan.now (option_copied next) world.old }
+    ensures played { IfOk result (λ played. IsPlayedLine plan.now (option_copied next.entry) (chosen place world.old.undelivered) world.old world.new played.text.items played.busy) }
+    ensures fits { OnOk result (FitsGrown plan.now (option_copied next.entry) world.new) }
     ensures coords { OnOk result (length world.new.coords ≡ length world.old.coords) }
     ensures few { IfOk result (λ played. played.busy ≤ 1) }
 {
     match chosen(place, world.undelivered()) {
-        Some(event) => play_event(alloc, plan, world, &event),
+        Some(event) => play_event(alloc, plan, next, world, &event),
         None => {
-            let text = nothing_text(alloc, plan.workload())?;
+            let text = nothing_text(alloc, last_plan(plan, next).workload())?;
             Ok(Played { text, busy: 0 })
         }
     }
@@ -197,19 +239,22 @@ fn play_any(alloc: Global, plan: &Plan, world: &mut World, place: u32) -> Result
 fn play_event(
     alloc: Global,
     plan: &Plan,
+    next: Option<&Next>,
     world: &mut World,
     event: &Event,
 ) -> Result<Played, NoMemory>
-    requires fits { FitsWorld plan.now world.old }
-    requires event { IsEventOf plan.now world.old event.now }
-    ensures played { IfOk result (λ played. IsPlayedLine plan.now (Some event.now) world.old world.new played.text.items played.busy) }
-    ensures fits { OnOk result (FitsWorld plan.now world.new) }
+    requires next { IsNextOf plan.now (option_copied next) }
+    requires fits { FitsGrown plan.now (option_copied next) world.old }
+    requires event { IsEventOf plan.now (option_copied next) world.old event.now }
+    ensures played { IfOk result (λ played. IsPlayedLine plan.now (option_copied next.entry) (Some event.now) world.old world.new played.text.items played.busy) }
+    ensures fits { OnOk result (FitsGrown plan.now (option_copied next.entry) world.new) }
     ensures coords { OnOk result (length world.new.coords ≡ length world.old.coords) }
     ensures few { IfOk result (λ played. played.busy ≤ 1) }
 {
     let before = world.sent().len();
-    let seen = world.step(plan, event)?;
-    let text = event_text(alloc, plan.workload(), event, &seen, world.sent(), before)?;
+    let seen = world.step(plan, next, event)?;
+    let workload = last_plan(plan, next).workload();
+    let text = event_text(alloc, workload, event, &seen, world.sent(), before)?;
     Ok(Played {
         text,
         busy: busy_lines(event, &seen),
@@ -226,6 +271,6 @@ fn busy_lines(event: &Event, seen: &Seen) -> u64
             Seen::Busy => 1,
             _ => 0,
         },
-        Event::Deliver(_) | Event::Tick(_) | Event::Stop { .. } => 0,
+        Event::Deliver(_) | Event::Tick(_) | Event::Stop { .. } | Event::Drain(_) => 0,
     }
 }

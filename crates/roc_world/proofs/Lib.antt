@@ -1,9 +1,11 @@
 pub mod Numbers
+pub mod Sealings
 pub mod Sending
 pub mod FirstNodes
 pub mod WorldsFit
 pub mod Flattened
 pub mod NodeSteps
 pub mod Events
+pub mod Submissions
 pub mod Woven
 pub mod FirstReads

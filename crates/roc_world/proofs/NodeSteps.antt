@@ -1,88 +1,96 @@
--- What comes of a message or a tick at one of many nodes, by that node's own step
-use Rattle.std.proofs.Common.{◌≡◌, ℕ, ℤ, ◌<◌, List, Some, Result, Ok, Err, length, map, get_or, slice_set, refl, sym, ap, subst, ◌∙◌}
-use Rattle.std.specs.List.{AllByRecursion}
-use Rattle.std.proofs.lemmas.List.{get_or-map, length-map}
+-- What comes of a message, a submission, a drain or a tick at one of many nodes, by that node's own step
+use Rattle.std.proofs.Common.{◌≡◌, ℕ, ℤ, ◌<◌, Bool, List, Option, Some, Result, Ok, Err, IfOk, length, get_or, slice_set, refl, sym, ap, ◌∙◌}
 use Rattle.std.proofs.lemmas.Option.{slice_get-get_or}
-use Rattle.roc_sequence.proofs.Holds.{all_at}
+use Rattle.roc_base.specs.declared.id.TxnId.{TxnId}
 use Rattle.roc_msg.specs.declared.msg.Msg.{Msg}
 use Rattle.roc_msg.specs.Outbox.{Collected, HasSent}
 use Rattle.roc_plan.specs.Groups.{Plan}
-use Rattle.roc_step.specs.declared.handled.Handled.{Handled}
-use Rattle.roc_step.specs.Reads.{AnswersReads, ReadStep}
-use Rattle.roc_step.specs.Restarts.{without_reads}
-use Rattle.roc_step.specs.State.{ServerStep}
-use Rattle.roc_step.specs.Step.{Handles, Shows, tick_sends}
-use Rattle.roc_base.specs.declared.id.TxnId.{TxnId}
-use Rattle.roc_coord.specs.declared.handled.Handled.{Handled as CoordHandled}
-use Rattle.roc_coord.specs.declared.handled.SubmitFault.{SubmitFault}
-use Rattle.roc_coord.specs.declared.handled.SubmitFault.TheVariants as fault
-use Rattle.roc_coord.specs.State.{CoordState}
-use Rattle.roc_coord.specs.Step.{after_message, IsOutcome}
-use Rattle.roc_coord.specs.Submit.{after_submit, IsSubmitted, UnlessNoMemory}
-use Rattle.roc_world.specs.Inner.Nodes.{Idle, ServerTakes, CoordTakes, CoordSubmits, ServerTicks, ServerRestarts}
+use Rattle.roc_epoch.specs.declared.file.File.{File}
+use Rattle.roc_epoch.specs.declared.next.Next.{Next}
+use Rattle.roc_grown.specs.declared.handled.GrownHandled.{GrownHandled}
+use Rattle.roc_grown.specs.declared.handled.GrownAnswer.{GrownAnswer}
+use Rattle.roc_grown.specs.declared.handled.GrownFault.{GrownFault}
+use Rattle.roc_grown.specs.Server.{GrownServerState, GrownStep, GrownHandles, ShowsGrown, restarted, grown_server_tick}
+use Rattle.roc_grown.specs.Coord.{GrownCoordState, after_drain, IsDrainStep, after_grown_submit, IsGrownSubmission, after_grown_message, IsGrownOutcome, grown_tick_sends}
+use Rattle.roc_world.specs.Inner.Nodes.{answer_of, ServerTakes, CoordTakes, CoordSubmits, CoordDrains, ServerTicks, ServerRestarts, CoordTicks}
 
-pub server_takes :
-    (plan : Plan) (servers : List Idle) (shard : ℕ) (s after : Idle) (msg : Msg) (answer : Handled) (before out : Collected) → shard < length servers → s ≡ get_or servers shard s
-    → (r : ServerStep) × (q : ReadStep) × Handles plan s.state msg r × AnswersReads plan s.viewing msg r q × Shows r q answer after.state after.viewing before out
-    → ServerTakes plan shard msg answer servers (slice_set servers shard after) before out
-server_takes plan servers shard s after msg answer before out within is (r, q, handles, answers, shows) =
-    record {
-      server = s;
-      there = slice_get-get_or servers shard s within ∙ ap Some (sym is);
-      step = r;
-      handles = handles;
-      reads = q;
-      answers_reads = answers;
-      shows = record { answers = shows.answers; keeps = refl; views = refl; sends = shows.sends; decides = shows.decides; ran = shows.ran };
-      others = λ i. slice_set servers shard (record { state = sym shows.keeps i; viewing = sym shows.views i });
-    }
+module _ (servers : List GrownServerState) (shard : ℕ) (s after : GrownServerState) (within : shard < length servers) (is : s ≡ get_or servers shard s) where
+  pub server_takes :
+      (plan : Plan) (next : Option Next) (file : File) (msg : Msg) (answer : GrownHandled) (switched : Bool) (before out : Collected) → switched ≡ after.switched
+      → (g : GrownStep) × GrownHandles plan next s file msg g × ShowsGrown g answer after before out → ServerTakes plan next shard file msg answer switched servers (slice_set servers shard after) before out
+  server_takes plan next file msg answer switched before out stands (g, handles, shows) =
+      record {
+        server = s;
+        there = slice_get-get_or servers shard s within ∙ ap Some (sym is);
+        step = g;
+        handles = handles;
+        shows = record { answers = shows.answers; keeps = refl; sends = shows.sends; decides = shows.decides; ran = shows.ran };
+        stands = stands ∙ ap (λ (t : GrownServerState). t.switched) (sym shows.keeps);
+        others = ap (slice_set servers shard) (sym shows.keeps);
+      }
 
-pub server_ticks :
-    (servers : List Idle) (shard : ℕ) (s after : Idle) (before out : Collected) → shard < length servers → s ≡ get_or servers shard s
-    → HasSent before out (tick_sends s.state) → after ≡ s → ServerTicks shard servers (slice_set servers shard after) before out
-server_ticks servers shard s after before out within is sent same = record { server = s; there = slice_get-get_or servers shard s within ∙ ap Some (sym is); sent = sent; others = ap (slice_set servers shard) same }
+  pub server_ticks :
+      (switched : Bool) (before out : Collected) → switched ≡ after.switched → HasSent before out (grown_server_tick s) → after ≡ s → ServerTicks shard switched servers (slice_set servers shard after) before out
+  server_ticks switched before out stands sent same =
+      record {
+        server = s;
+        there = slice_get-get_or servers shard s within ∙ ap Some (sym is);
+        sent = sent;
+        stands = stands ∙ ap (λ (t : GrownServerState). t.switched) same;
+        others = ap (slice_set servers shard) same;
+      }
 
-pub server_restarts :
-    (servers : List Idle) (shard : ℕ) (s after : Idle) → shard < length servers → s ≡ get_or servers shard s → after.state ≡ s.state → after.viewing ≡ without_reads s.viewing
-    → ServerRestarts shard servers (slice_set servers shard after)
-server_restarts servers shard s after within is state viewing =
-    record {
-      server = s;
-      there = slice_get-get_or servers shard s within ∙ ap Some (sym is);
-      others = λ i. slice_set servers shard (record { state = state i; viewing = viewing i });
-    }
+  pub server_restarts : after ≡ restarted s → ServerRestarts shard servers (slice_set servers shard after)
+  server_restarts same = record { server = s; there = slice_get-get_or servers shard s within ∙ ap Some (sym is); others = ap (slice_set servers shard) same }
 
--- what holds of each server's part holds of that of one of them
-pub part_at : {A : Type 0} (P : A → Type 0) (part : Idle → A) (servers : List Idle) (shard : ℕ) (s : Idle) → AllByRecursion P (map part servers) → shard < length servers → s ≡ get_or servers shard s → P (part s)
-part_at P part servers shard s all within is =
-    subst P (get_or-map part servers shard s (part s) within ∙ ap part (sym is)) (all_at P (map part servers) shard (part s) all (subst (λ n. shard < n) (sym (length-map servers part)) within))
+module _ (coords : List GrownCoordState) (number : ℕ) (s after : GrownCoordState) (within : number < length coords) (is : s ≡ get_or coords number s) where
+  pub coord_takes :
+      (plan : Plan) (next : Option Next) (file : File) (msg : Msg) (answer : GrownAnswer) (switched : Bool) (before out : Collected) → switched ≡ after.switched
+      → IsGrownOutcome (after_grown_message plan next s file msg) answer after before out → CoordTakes plan next number file msg answer switched coords (slice_set coords number after) before out
+  coord_takes plan next file msg answer switched before out stands outcome =
+      record {
+        coord = s;
+        there = slice_get-get_or coords number s within ∙ ap Some (sym is);
+        outcome = record { answer = outcome.answer; state = refl; sent = outcome.sent };
+        stands = stands ∙ ap (λ (c : GrownCoordState). c.switched) outcome.state;
+        others = ap (slice_set coords number) outcome.state;
+      }
 
-pub coord_takes :
-    (plan : Plan) (coords : List CoordState) (number : ℕ) (s after : CoordState) (msg : Msg) (answer : CoordHandled) (before out : Collected) → number < length coords → s ≡ get_or coords number s
-    → IsOutcome (after_message plan s msg) answer after before out → CoordTakes plan number msg answer coords (slice_set coords number after) before out
-coord_takes plan coords number s after msg answer before out within is outcome =
-    record {
-      coord = s;
-      there = slice_get-get_or coords number s within ∙ ap Some (sym is);
-      outcome = record { answer = outcome.answer; state = refl; sent = outcome.sent };
-      others = ap (slice_set coords number) outcome.state;
-    }
+  pub coord_submits :
+      (plan : Plan) (next : Option Next) (proc : ℕ) (args : List ℤ) (taken : Result (TxnId × Bool) GrownFault) (before out : Collected) → IfOk taken (λ t. t.1 ≡ after.switched)
+      → IsGrownSubmission (after_grown_submit plan next s proc args) (answer_of taken) after before out → CoordSubmits plan next number proc args taken coords (slice_set coords number after) before out
+  coord_submits plan next proc args taken before out stands submitted =
+      record {
+        coord = s;
+        there = slice_get-get_or coords number s within ∙ ap Some (sym is);
+        submitted = record { answer = submitted.answer; state = refl; sent = submitted.sent };
+        stands = stands_too taken stands;
+        others = ap (slice_set coords number) submitted.state;
+      }
+    where
+      stands_too : (t : Result (TxnId × Bool) GrownFault) → IfOk t (λ t. t.1 ≡ after.switched) → IfOk t (λ t. t.1 ≡ (after_grown_submit plan next s proc args).state.switched)
+      stands_too (Ok t) h = h ∙ ap (λ (c : GrownCoordState). c.switched) submitted.state
+      stands_too (Err fault) h = h
 
-pub coord_submits :
-    (plan : Plan) (coords : List CoordState) (number proc : ℕ) (args : List ℤ) (s after : CoordState) (answer : Result TxnId SubmitFault) (before out : Collected) → number < length coords → s ≡ get_or coords number s
-    → UnlessNoMemory answer (IsSubmitted (after_submit plan s proc args) answer after before out) → UnlessNoMemory answer (CoordSubmits plan number proc args answer coords (slice_set coords number after) before out)
-coord_submits plan coords number proc args s after answer before out within is = unless_no_memory answer (λ submitted.
-    record {
-      coord = s;
-      there = slice_get-get_or coords number s within ∙ ap Some (sym is);
-      submitted = record { answer = submitted.answer; state = refl; sent = submitted.sent };
-      others = ap (slice_set coords number) submitted.state;
-    })
-  where
-    unless_no_memory : {P Q : Type 0} (a : Result TxnId SubmitFault) → (P → Q) → UnlessNoMemory a P → UnlessNoMemory a Q
-    unless_no_memory (Ok id) f p = f p
-    unless_no_memory (Err fault.NoMemory) f p = p
-    unless_no_memory (Err fault.NoProc) f p = f p
-    unless_no_memory (Err fault.Args) f p = f p
-    unless_no_memory (Err fault.Spent) f p = f p
-    unless_no_memory (Err fault.Busy) f p = f p
+  pub coord_drains :
+      (plan : Plan) (switched : Bool) (before out : Collected) → switched ≡ after.switched → IsDrainStep (after_drain plan s) after before out → CoordDrains plan number switched coords (slice_set coords number after) before out
+  coord_drains plan switched before out stands drained =
+      record {
+        coord = s;
+        there = slice_get-get_or coords number s within ∙ ap Some (sym is);
+        drained = record { state = refl; sent = drained.sent };
+        stands = stands ∙ ap (λ (c : GrownCoordState). c.switched) drained.state;
+        others = ap (slice_set coords number) drained.state;
+      }
+
+  pub coord_ticks :
+      (plan : Plan) (next : Option Next) (switched : Bool) (before out : Collected) → switched ≡ after.switched → HasSent before out (grown_tick_sends plan next s) → after ≡ s
+      → CoordTicks plan next number switched coords (slice_set coords number after) before out
+  coord_ticks plan next switched before out stands sent same =
+      record {
+        coord = s;
+        there = slice_get-get_or coords number s within ∙ ap Some (sym is);
+        sent = sent;
+        stands = stands ∙ ap (λ (c : GrownCoordState). c.switched) same;
+        others = ap (slice_set coords number) same;
+      }

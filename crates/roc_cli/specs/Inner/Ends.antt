@@ -2,6 +2,7 @@
 use Rattle.std.specs.Prelude.{◌≡◌, ◌⊎◌, false, ℕ, List, Option, Result, Ok, Err}
 use Rattle.roc_io.specs.Observed.{Adds, AddsFront}
 use Rattle.roc_plan.specs.Groups.{Plan}
+use Rattle.roc_epoch.specs.declared.next.Next.{Next}
 use Rattle.roc_base.specs.declared.id.TxnId.{TxnId}
 use Rattle.roc_log.specs.declared.line.Log.{Log}
 use Rattle.roc_judge.specs.declared.judgement.Judgement.TheVariants.{Yes}
@@ -30,13 +31,13 @@ use Rattle.roc_cli_files.specs.Fault.{line_of}
 -- ---- one command
 
 -- how the replay of a schedule's bytes ends
-abbrev pub ReplayEnds : Plan → (bytes name : List ℕ) → (old new : Option (List ℕ)) → Result Unit Fault → Type 0
-ReplayEnds plan bytes name old new (Ok done) = (summary : Summary) × IsReplayed plan bytes summary old new
-ReplayEnds plan bytes name old new (Err (At file line what)) =
-    (file.now ≡ name) × ((w : ScheduleWhat) × (what.now ≡ schedule_text w) × IsTextFault plan bytes line w old new)
-ReplayEnds plan bytes name old new (Err Memory) = IsUnfinished plan bytes old new
-ReplayEnds plan bytes name old new (Err Sink) = IsCut plan bytes old new
-ReplayEnds plan bytes name old new _ = ⊥
+abbrev pub ReplayEnds : Plan → Option Next → (bytes name : List ℕ) → (old new : Option (List ℕ)) → Result Unit Fault → Type 0
+ReplayEnds plan next bytes name old new (Ok done) = (summary : Summary) × IsReplayed plan next bytes summary old new
+ReplayEnds plan next bytes name old new (Err (At file line what)) =
+    (file.now ≡ name) × ((w : ScheduleWhat) × (what.now ≡ schedule_text w) × IsTextFault plan next bytes line w old new)
+ReplayEnds plan next bytes name old new (Err Memory) = IsUnfinished plan next bytes old new
+ReplayEnds plan next bytes name old new (Err Sink) = IsCut plan next bytes old new
+ReplayEnds plan next bytes name old new _ = ⊥
 
 -- how generated load ends
 abbrev pub GenEnds : (seed shards txns : ℕ) → Part → (old new : Option (List ℕ)) → Result Unit Fault → Type 0

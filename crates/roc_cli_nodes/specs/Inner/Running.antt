@@ -1,10 +1,15 @@
 -- What the loop of each command tells, by how nodes end
-use Rattle.std.specs.Prelude.{◌≡◌, ℕ, Bool, List, [], Option, Some, Result, option_map, unwrap_or}
+use Rattle.std.specs.Prelude.{◌≡◌, ℕ, Bool, List, [], Option, Some, None, Result, option_map, unwrap_or}
 use Rattle.std.specs.Borrow.{Bor}
 use Rattle.roc_base.specs.declared.node.Shard.{Shard}
 use Rattle.roc_io.specs.declared.link.Addr.{Addr}
 use Rattle.roc_sched.specs.declared.line.Request.{Request}
+use Rattle.roc_epoch.specs.declared.next.Next.{Next}
 use Rattle.roc_node.specs.NodeEvent.{NodeSetting}
+use Rattle.roc_grown_node.specs.Setting.{GrownNodeSetting}
+use Rattle.roc_grown_serve.specs.GrownRun.{first_grown_node}
+use Rattle.roc_grown_serve.specs.ServesGrowing.{ServesGrowing}
+use Rattle.roc_grown_submit.specs.GrownEnd.{BindsAndSubmitsGrowing}
 use Rattle.roc_node_serve.specs.declared.ends.ServeEnd.{ServeEnd}
 use Rattle.roc_node_submit.specs.declared.ends.SubmitEnd.{SubmitEnd}
 use Rattle.roc_node_serve.specs.Keeping.{ServesWith}
@@ -35,6 +40,18 @@ ServesAs disk journal log S shard own turns counts call book end =
 abbrev pub SubmitsAs : NodeSetting → (coord : ℕ) → List Request → (turns : ℕ) → (log : Option (List ℕ)) → NodeCall → BookCall → NodesEnd → Type 0
 SubmitsAs S coord requests turns log call book end =
     (e : SubmitEnd) × (end_of_submit (unwrap_or log []) e ≡ end) × BindsAndSubmits S coord requests turns log call book e
+
+-- what those do that go over to a grown workload
+abbrev pub ServesGrowingAs : GrownNodeSetting → Shard → (own : Addr) → (turns : ℕ) → (counts : Bool) → NodeCall → NodesEnd → Type 0
+ServesGrowingAs S shard own turns counts call end = (e : ServeEnd) × (end_of_serve [] [] e ≡ end) × ServesGrowing S (first_grown_node S.plan shard) shard own turns counts call e
+
+abbrev pub SubmitsGrowingAs : GrownNodeSetting → (coord : ℕ) → (requests later : List Request) → (turns : ℕ) → NodeCall → NodesEnd → Type 0
+SubmitsGrowingAs S coord requests later turns call end = (e : SubmitEnd) × (end_of_submit [] e ≡ end) × BindsAndSubmitsGrowing S coord requests later turns call e
+
+-- what is told of nodes: of those that go over, where a workload to grow to was read, and else of the others
+abbrev pub ByNext : Option Next → (plain : NodesEnd → Type 0) → (grown : Next → NodesEnd → Type 0) → NodesEnd → Type 0
+ByNext None plain grown end = plain end
+ByNext (Some next) plain grown end = grown next end
 
 -- what sending stops does to a link
 pub record StopsLink (tag : List ℕ) (cluster : List Addr) (link : LinkCall) (end : StopEnd) : Type 0 where

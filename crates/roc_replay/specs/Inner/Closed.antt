@@ -6,9 +6,9 @@ use Rattle.roc_base.specs.Node.{is_node}
 use Rattle.roc_io.specs.Observed.{Adds, AddsFront}
 use Rattle.roc_msg.specs.declared.msg.Envelope.{Envelope}
 use Rattle.roc_program.specs.Program.{Workload}
-use Rattle.roc_views.specs.World.{World}
-use Rattle.roc_protocol.specs.declared.event.Event.{Event}
-use Rattle.roc_protocol.specs.declared.event.Event.TheVariants as event
+use Rattle.roc_growth.specs.declared.event.Event.{Event}
+use Rattle.roc_growth.specs.declared.event.Event.TheVariants as event
+use Rattle.roc_growth.specs.World.{GrownWorld}
 use Rattle.roc_report.specs.Line.{End}
 use Rattle.roc_report.specs.ReportLine.{HaveSmallNumbers}
 use Rattle.roc_report.specs.Text.{lines_text}
@@ -19,7 +19,7 @@ use Rattle.roc_replay.specs.declared.ended.Ended.TheVariants.{Done, Text, SinkFa
 use Rattle.roc_replay.specs.Report.{end_line, closing_lines}
 
 -- the sink took the closing lines of a world, after so many submissions were refused as busy
-abbrev pub IsClosed : Workload → World → ℕ → Ended → (old new : Option (List ℕ)) → Type 0
+abbrev pub IsClosed : Workload → GrownWorld → ℕ → Ended → (old new : Option (List ℕ)) → Type 0
 IsClosed program w busy (Done summary) old new =
     Adds old new (lines_text program (closing_lines w)) × (end_line w ≡ End summary.answered summary.pending summary.messages) × (summary.busy ≡ busy)
     × HaveSmallNumbers (closing_lines w)
@@ -41,6 +41,7 @@ abbrev pub asks_unsent : Event → List Envelope → Bool
 asks_unsent (event.Deliver number) sent = nat_lt (length sent) number
 asks_unsent (event.Submit coord proc args) sent = false
 asks_unsent (event.Tick node) sent = false
+asks_unsent (event.Drain coord) sent = false
 asks_unsent (event.Stop shard None) sent = false
 asks_unsent (event.Stop shard (Some (number, kept))) sent = not (is_sent_to shard number sent)
 

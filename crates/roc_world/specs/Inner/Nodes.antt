@@ -1,73 +1,77 @@
--- What comes of an event at one of many nodes
-use Rattle.std.specs.Prelude.{◌≡◌, ℕ, ℤ, List, Some, Result, map, slice_get, slice_set}
+-- What comes of an event at one of many nodes, and whether that one has switched behind it
+use Rattle.std.specs.Prelude.{◌≡◌, ℕ, ℤ, Bool, List, Option, Some, Result, Ok, Err, IfOk, slice_get, slice_set}
 use Rattle.roc_base.specs.declared.id.TxnId.{TxnId}
 use Rattle.roc_msg.specs.declared.msg.Msg.{Msg}
 use Rattle.roc_msg.specs.Outbox.{Collected, HasSent}
 use Rattle.roc_plan.specs.Groups.{Plan}
-use Rattle.roc_step.specs.declared.handled.Handled.{Handled as ServerHandled}
-use Rattle.roc_step.specs.Reads.{AnswersReads, ReadStep}
-use Rattle.roc_step.specs.Restarts.{without_reads}
-use Rattle.roc_step.specs.State.{ServerState, ServerStep, Viewing}
-use Rattle.roc_step.specs.Step.{Handles, Shows, tick_sends as server_sends}
-use Rattle.roc_coord.specs.declared.handled.Handled.{Handled as CoordHandled}
-use Rattle.roc_coord.specs.declared.handled.SubmitFault.{SubmitFault}
-use Rattle.roc_coord.specs.State.{CoordState}
-use Rattle.roc_coord.specs.Step.{after_message, IsOutcome}
-use Rattle.roc_coord.specs.Submit.{after_submit, IsSubmitted}
-use Rattle.roc_coord.specs.Tick.{tick_sends as coord_sends}
+use Rattle.roc_epoch.specs.declared.file.File.{File}
+use Rattle.roc_epoch.specs.declared.next.Next.{Next}
+use Rattle.roc_grown.specs.declared.handled.GrownHandled.{GrownHandled}
+use Rattle.roc_grown.specs.declared.handled.GrownAnswer.{GrownAnswer}
+use Rattle.roc_grown.specs.declared.handled.GrownFault.{GrownFault}
+use Rattle.roc_grown.specs.Server.{GrownServerState, GrownStep, GrownHandles, ShowsGrown, restarted, grown_server_tick}
+use Rattle.roc_grown.specs.Coord.{GrownCoordState, after_drain, IsDrainStep, after_grown_submit, IsGrownSubmission, after_grown_message, IsGrownOutcome, grown_tick_sends}
 
--- a server that makes nothing ahead: what it keeps, and what of it for views
-pub record Idle : Type 0 where
-  pub state : ServerState
-  pub viewing : Viewing
-
-abbrev pub states_of : List Idle → List ServerState
-states_of servers = map (λ s. s.state) servers
-
-abbrev pub viewings_of : List Idle → List Viewing
-viewings_of servers = map (λ s. s.viewing) servers
-
--- the server of a shard took a message, and no other changed
-pub record ServerTakes (plan : Plan) (shard : ℕ) (msg : Msg) (answer : ServerHandled) (old new : List Idle) (before after : Collected) : Type 0 where
-  pub server : Idle
+-- the server of a shard took a message of a file, and no other changed
+pub record ServerTakes (plan : Plan) (next : Option Next) (shard : ℕ) (file : File) (msg : Msg) (answer : GrownHandled) (switched : Bool) (old new : List GrownServerState)
+    (before after : Collected) : Type 0 where
+  pub server : GrownServerState
   pub there : slice_get old shard ≡ Some server
-  pub step : ServerStep
-  pub handles : Handles plan server.state msg step
-  pub reads : ReadStep
-  pub answers_reads : AnswersReads plan server.viewing msg step reads
-  pub shows : Shows step reads answer step.state reads.viewing before after
-  pub others : new ≡ slice_set old shard (record { state = step.state; viewing = reads.viewing })
+  pub step : GrownStep
+  pub handles : GrownHandles plan next server file msg step
+  pub shows : ShowsGrown step answer step.state before after
+  pub stands : switched ≡ step.state.switched
+  pub others : new ≡ slice_set old shard step.state
 
--- a coordinator took a message, and no other changed
-pub record CoordTakes (plan : Plan) (number : ℕ) (msg : Msg) (answer : CoordHandled) (old new : List CoordState) (before after : Collected) : Type 0 where
-  pub coord : CoordState
+-- a coordinator took a message of a file, and no other changed
+pub record CoordTakes (plan : Plan) (next : Option Next) (number : ℕ) (file : File) (msg : Msg) (answer : GrownAnswer) (switched : Bool) (old new : List GrownCoordState)
+    (before after : Collected) : Type 0 where
+  pub coord : GrownCoordState
   pub there : slice_get old number ≡ Some coord
-  pub outcome : IsOutcome (after_message plan coord msg) answer (after_message plan coord msg).state before after
-  pub others : new ≡ slice_set old number (after_message plan coord msg).state
+  pub outcome : IsGrownOutcome (after_grown_message plan next coord file msg) answer (after_grown_message plan next coord file msg).state before after
+  pub stands : switched ≡ (after_grown_message plan next coord file msg).state.switched
+  pub others : new ≡ slice_set old number (after_grown_message plan next coord file msg).state
+
+-- the id that a submission has, or why it has none
+abbrev pub answer_of : Result (TxnId × Bool) GrownFault → Result TxnId GrownFault
+answer_of (Ok (id, switched)) = Ok id
+answer_of (Err fault) = Err fault
 
 -- a transaction or a view was submitted at a coordinator, and no other changed
-pub record CoordSubmits (plan : Plan) (number proc : ℕ) (args : List ℤ) (answer : Result TxnId SubmitFault) (old new : List CoordState) (before after : Collected) : Type 0 where
-  pub coord : CoordState
+pub record CoordSubmits (plan : Plan) (next : Option Next) (number proc : ℕ) (args : List ℤ) (taken : Result (TxnId × Bool) GrownFault) (old new : List GrownCoordState)
+    (before after : Collected) : Type 0 where
+  pub coord : GrownCoordState
   pub there : slice_get old number ≡ Some coord
-  pub submitted : IsSubmitted (after_submit plan coord proc args) answer (after_submit plan coord proc args).state before after
-  pub others : new ≡ slice_set old number (after_submit plan coord proc args).state
+  pub submitted : IsGrownSubmission (after_grown_submit plan next coord proc args) (answer_of taken) (after_grown_submit plan next coord proc args).state before after
+  pub stands : IfOk taken (λ t. t.1 ≡ (after_grown_submit plan next coord proc args).state.switched)
+  pub others : new ≡ slice_set old number (after_grown_submit plan next coord proc args).state
+
+-- a coordinator was told to drain, and no other changed
+pub record CoordDrains (plan : Plan) (number : ℕ) (switched : Bool) (old new : List GrownCoordState) (before after : Collected) : Type 0 where
+  pub coord : GrownCoordState
+  pub there : slice_get old number ≡ Some coord
+  pub drained : IsDrainStep (after_drain plan coord) (after_drain plan coord).state before after
+  pub stands : switched ≡ (after_drain plan coord).state.switched
+  pub others : new ≡ slice_set old number (after_drain plan coord).state
 
 -- a tick of a server, which is written again as it was
-pub record ServerTicks (shard : ℕ) (old new : List Idle) (before after : Collected) : Type 0 where
-  pub server : Idle
+pub record ServerTicks (shard : ℕ) (switched : Bool) (old new : List GrownServerState) (before after : Collected) : Type 0 where
+  pub server : GrownServerState
   pub there : slice_get old shard ≡ Some server
-  pub sent : HasSent before after (server_sends server.state)
+  pub sent : HasSent before after (grown_server_tick server)
+  pub stands : switched ≡ server.switched
   pub others : new ≡ slice_set old shard server
 
 -- a server starts again: it keeps its state, and no read for a view
-pub record ServerRestarts (shard : ℕ) (old new : List Idle) : Type 0 where
-  pub server : Idle
+pub record ServerRestarts (shard : ℕ) (old new : List GrownServerState) : Type 0 where
+  pub server : GrownServerState
   pub there : slice_get old shard ≡ Some server
-  pub others : new ≡ slice_set old shard (record { state = server.state; viewing = without_reads server.viewing })
+  pub others : new ≡ slice_set old shard (restarted server)
 
 -- a tick of a coordinator, likewise
-pub record CoordTicks (plan : Plan) (number : ℕ) (old new : List CoordState) (before after : Collected) : Type 0 where
-  pub coord : CoordState
+pub record CoordTicks (plan : Plan) (next : Option Next) (number : ℕ) (switched : Bool) (old new : List GrownCoordState) (before after : Collected) : Type 0 where
+  pub coord : GrownCoordState
   pub there : slice_get old number ≡ Some coord
-  pub sent : HasSent before after (coord_sends plan coord)
+  pub sent : HasSent before after (grown_tick_sends plan next coord)
+  pub stands : switched ≡ coord.switched
   pub others : new ≡ slice_set old number coord

@@ -1,13 +1,17 @@
 use Rattle.std.proofs.Common.{refl, subst, sym}
 use Rattle.roc_cli_nodes.specs.Words.{IsAudit}
 use Rattle.roc_cli_words.specs.Answer.{AreWordsOf}
-use Rattle.roc_cli_words.specs.Commands.{command_with, log_names}
+use Rattle.roc_cli_words.specs.Commands.{IsWithin, command_with, log_names}
 use Rattle.roc_cli.proofs.Faults.{print_ends, check_ends, gen_ends}
 use Rattle.roc_cli.proofs.Counts.{gen_reads, gen_blames_no_file}
 use Rattle.roc_cli.proofs.command.perform_alone.Goals as goal
 
 pub returns-in-Replay-clause-ends : goal.returns-in-Replay-clause-ends
 returns-in-Replay-clause-ends g c words given = c.replay_files.ensures.ends words (subst (λ a. AreWordsOf words (command_with (log_names c.args.asked.logs) a)) c.in-Replay.is given)
+
+-- a workload to grow to is for 1 to 16 coordinators
+pub replay_files-requires : goal.replay_files-requires
+replay_files-requires g c = record { within = subst (λ a. IsWithin (command_with (log_names c.args.asked.logs) a)) c.in-Replay.is c.requires.within }
 
 pub returns-in-Print-clause-ends : goal.returns-in-Print-clause-ends
 returns-in-Print-clause-ends g c words given = print_ends _ _ _ (subst (λ a. AreWordsOf words (command_with (log_names c.args.asked.logs) a)) c.in-Print.is given) c.print_file.ensures.failed c.print_file.ensures.ends

@@ -13,6 +13,7 @@ returns c = record {
   no_list_fault = c.texts_are_right_or_wrong.ensures.one_of_each;
   no_text_fault = c.sent_schedules_have_no_fault.ensures;
   sent = c.sent_schedules_are_played.ensures.sent;
+  one_growth = c.growth_is_one.ensures;
   one_log = c.logs_are_unique.ensures.logs;
   no_log_fault = c.texts_are_right_or_wrong-2.ensures.not_both;
   whole_logs = c.honest_verdicts_are_yes.ensures.whole;

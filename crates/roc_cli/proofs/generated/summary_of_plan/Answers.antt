@@ -8,7 +8,7 @@ use Rattle.roc_cli.proofs.generated.summary_of_plan.Goals as goal
 pub returns-in-Done : goal.returns-in-Done
 returns-in-Done c =
     generated_run (λ t. t.items) c.args.seed c.args.shards c.args.txns c.args.plan.now c.in-Done.summary _ c.requires.planned
-    (subst (λ s. IsReplayed c.args.plan.now s c.in-Done.summary None None) c.requires.schedule c.in-Done.ensures.done) c.summary_text.ensures
+    (subst (λ s. IsReplayed c.args.plan.now None s c.in-Done.summary None None) c.requires.schedule c.in-Done.ensures.done) c.summary_text.ensures
 
 -- the generated schedule is one of the plan, and names no message
 pub unreachable-requires : goal.unreachable-requires

@@ -1,7 +1,7 @@
 use Rattle.std.proofs.Common.{refl, sym, ap, subst, ◌∙◌}
 use Rattle.roc_cli_nodes.specs.Words.{journal_of, log_of}
 use Rattle.roc_cli_words.specs.Answer.{AreWordsOf}
-use Rattle.roc_cli_words.specs.Commands.{command_with, log_names}
+use Rattle.roc_cli_words.specs.Commands.{IsWithin, command_with, log_names}
 use Rattle.roc_cli_nodes.proofs.Looping.{served_among, submitted_among, stopped_among, local_among}
 use Rattle.roc_cli_nodes.proofs.Reading.{caused}
 use Rattle.roc_cli_nodes.proofs.launching.launch.Goals as goal
@@ -48,3 +48,13 @@ returns-in-Stop-clause-book_faults g c = caused _ _ _ _ c.stop_files.ensures.no_
 
 pub returns-in-Local-clause-book_faults : goal.returns-in-Local-clause-book_faults
 returns-in-Local-clause-book_faults g c = caused _ _ _ _ c.local_files.ensures.no_book refl
+
+-- where it grows, neither a journal nor a log is kept
+pub serve_files-requires : goal.serve_files-requires
+serve_files-requires g c = record { alone = (subst (λ a. IsWithin (command_with (log_names c.args.asked.logs) a)) c.in-Serve.is c.requires.within).2 }
+
+pub submit_files-requires-clause-coord : goal.submit_files-requires-clause-coord
+submit_files-requires-clause-coord g c = (subst (λ a. IsWithin (command_with (log_names c.args.asked.logs) a)) c.in-Submit.is c.requires.within).0
+
+pub submit_files-requires-clause-alone : goal.submit_files-requires-clause-alone
+submit_files-requires-clause-alone g c = (subst (λ a. IsWithin (command_with (log_names c.args.asked.logs) a)) c.in-Submit.is c.requires.within).1

@@ -7,4 +7,6 @@ returns c =
     let second = c.with-command-2.ensures _ _ first c.named-2.ensures.rule c.named-2.ensures.local in
     let third = c.with-command-3.ensures _ _ second c.flag.ensures.rule c.flag.ensures.local in
     let fourth = c.with-command-4.ensures _ _ third c.choice.ensures.rule c.choice.ensures.local in
-    c.with.ensures _ _ fourth c.choice-2.ensures.rule c.choice-2.ensures.local
+    let fifth = c.with-command-5.ensures _ _ fourth c.choice-2.ensures.rule c.choice-2.ensures.local in
+    let sixth = c.with-command-6.ensures _ _ fifth c.choice-3.ensures.rule c.choice-3.ensures.local in
+    c.with.ensures _ _ sixth c.choice-4.ensures.rule c.choice-4.ensures.local

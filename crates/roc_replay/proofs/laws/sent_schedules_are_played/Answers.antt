@@ -1,13 +1,14 @@
-use Rattle.roc_views.specs.World.{first_beginning}
-use Rattle.roc_replay.specs.BoundLine.{played_forms, coordinators}
+use Rattle.roc_replay.specs.BoundLine.{played_forms, coordinators, last_program}
+use Rattle.roc_replay.proofs.Playing.{are_coords}
 use Rattle.roc_replay.proofs.Sendable.{played_there, played_sends}
 use Rattle.roc_replay.proofs.Schedules.{asked_fit}
 use Rattle.roc_replay.proofs.laws.sent_schedules_are_played.Goals as goal
 
 pub returns-clause-played : goal.returns-clause-played
-returns-clause-played c plan schedule lines some of sends =
-    played_there c.events_have_outcomes.ensures.outcome c.worlds_fit.ensures.kept plan lines (asked_fit plan.program of.lines lines (c.lines_fit.ensures.schedules played_forms plan.program.shards schedule of.lines of.schedule) of.asks) sends
-    (c.worlds_fit.ensures.first plan (first_beginning plan) coordinators some)
+returns-clause-played c plan next schedule lines grows some of sends =
+    played_there c.events_have_outcomes.ensures.outcome c.grown_worlds_fit.ensures.kept plan next grows lines
+    (asked_fit plan next of.lines lines (c.lines_fit.ensures.schedules (played_forms next) (last_program plan next).shards schedule of.lines of.schedule) of.asks) sends
+    (c.grown_worlds_fit.ensures.first plan next (coordinators next) some (are_coords next))
 
 pub returns-clause-sent : goal.returns-clause-sent
-returns-clause-sent c plan lines steps w played = played_sends plan (c.events_have_outcomes.ensures.only plan) (c.report_is_one.ensures.run plan) lines steps w played
+returns-clause-sent c plan next lines steps w played = played_sends plan next (c.events_have_outcomes.ensures.only plan next) (c.report_is_one.ensures.run plan next) lines steps w played

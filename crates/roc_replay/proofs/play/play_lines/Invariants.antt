@@ -1,9 +1,9 @@
 -- the lines so far were played, the sink took their text, and it has not failed
-use Rattle.std.proofs.Common.{◌≡◌, take}
+use Rattle.std.proofs.Common.{◌≡◌, take, option_copied}
 use Rattle.roc_replay.proofs.SoFar.{IsSoFar}
 use Rattle.roc_replay.proofs.play.play_lines.Given as goal
 
 abbrev pub invariant-loop-line : goal.invariant-loop-line
 invariant-loop-line g l =
     (g.S.Sink.faults l.sink ≡ g.S.Sink.faults l.fn.sink)
-    × IsSoFar l.plan (take l.line-index l.lines) l.world l.busy (g.S.Sink.taken l.fn.sink) (g.S.Sink.taken l.sink)
+    × IsSoFar l.plan (option_copied l.next) (take l.line-index l.lines) l.world l.busy (g.S.Sink.taken l.fn.sink) (g.S.Sink.taken l.sink)

@@ -1,4 +1,4 @@
-use Rattle.std.proofs.Common.{List, sym, subst}
+use Rattle.std.proofs.Common.{List, option_copied, sym, subst}
 use Rattle.roc_sched.specs.declared.fault.TextFault.{TextFault}
 use Rattle.roc_replay.specs.declared.asked.BoundLine.{BoundLine}
 use Rattle.roc_replay.specs.BoundLine.{IsScheduleOf}
@@ -9,16 +9,18 @@ use Rattle.roc_replay.proofs.schedule.replay.Goals as goal
 
 pub returns-in-Err-At-clause-complete : goal.returns-in-Err-At-clause-complete
 returns-in-Err-At-clause-complete g c lines of sends same room =
-    let program = c.args.plan.now.program in
+    let plan = c.args.plan.now in
+    let next = option_copied c.args.next in
     let schedule = c.args.schedule.now in
-    let is_blamed : TextFault → Type 0 = λ fault. IsBlamed program schedule fault in
-    not_blamed program c.lines_are_unique.ensures.schedules c.texts_are_right_or_wrong.ensures.one_of_both schedule lines c.in-Err-At.line c.in-Err-At.what of
+    let is_blamed : TextFault → Type 0 = λ fault. IsBlamed plan next schedule fault in
+    not_blamed plan next c.lines_are_unique.ensures.schedules c.texts_are_right_or_wrong.ensures.one_of_both schedule lines c.in-Err-At.line c.in-Err-At.what of
     (subst is_blamed c.in-Err-At.field-0-is c.in-Err-At.ensures.fault)
 
 pub returns-clause-complete : goal.returns-clause-complete
 returns-clause-complete g c lines of sends same room =
     let plan = c.args.plan.now in
+    let next = option_copied c.args.next in
     let schedule = c.args.schedule.now in
-    let is_schedule_of : List BoundLine → Type 0 = λ asked. IsScheduleOf plan.program schedule asked in
-    whole_end plan schedule lines of sends (one_schedule plan.program c.lines_are_unique.ensures.schedules) c.play.result _ _ _ _
+    let is_schedule_of : List BoundLine → Type 0 = λ asked. IsScheduleOf plan next schedule asked in
+    whole_end plan next schedule lines of sends (one_schedule plan next c.lines_are_unique.ensures.schedules) c.play.result _ _ _ _
     (c.play.ensures.ends schedule (subst is_schedule_of (sym c.as_slice.ensures) c.in-Ok.ensures.found)) c.play.ensures.sink same room

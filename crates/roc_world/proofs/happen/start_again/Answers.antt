@@ -1,4 +1,3 @@
-use Rattle.std.proofs.Common.{refl}
 use Rattle.std.proofs.lemmas.Result.{IfOk-weaker}
 use Rattle.roc_world.specs.Inner.Parts.{world_of}
 use Rattle.roc_world.proofs.Events.{starts_again}
@@ -10,7 +9,7 @@ returns-in-Ok c =
     IfOk-weaker c.note_tick.result _ _
     (λ what h. (
       h.0,
-      starts_again w c.args.parts.now.servers.items c.restart_at_server.new.servers.items c.tick_server.new.servers.items refl refl c.args.shard c.new-outbox.result c.tick_server.new.outbox
+      starts_again w c.restart_at_server.new.servers.items c.tick_server.new.servers.items c.args.shard c.in-Ok.switched c.new-outbox.result c.tick_server.new.outbox
           (world_of c.note_tick.new.parts) c.new-outbox.ensures.messages c.restart_at_server.ensures c.in-Ok.ensures h.1,
     ))
     c.note_tick.ensures

@@ -1,4 +1,4 @@
-use Rattle.roc_coord.specs.State.{CoordState}
+use Rattle.roc_grown.specs.Coord.{GrownCoordState}
 use Rattle.std.proofs.Common.{List, ap, ◌++◌, ◌∙◌}
 use Rattle.roc_base.specs.declared.id.TxnId.{TxnId}
 use Rattle.roc_world.proofs.Flattened.{flat_more}
@@ -6,7 +6,7 @@ use Rattle.roc_world.proofs.reads.unanswered_of.Goals as goal
 
 pub loop-coord-preserved : goal.loop-coord-preserved
 loop-coord-preserved c =
-    let unanswered : CoordState → List TxnId = λ s. s.unanswered in
+    let unanswered : GrownCoordState → List TxnId = λ s. s.core.unanswered in
     let at = c.loop-coord.coord-index in
     c.in_ok-extend_from_slice.ensures.items
     ∙ ap (λ (ids : List TxnId). c.loop-coord.ids.items ++ ids) c.unanswered.ensures.ids

@@ -3,4 +3,4 @@ use Rattle.std.specs.List.{flat_map}
 use Rattle.roc_world.proofs.reads.unanswered_of.Given as goal
 
 abbrev pub invariant-loop-coord : goal.invariant-loop-coord
-invariant-loop-coord l = l.ids.items ≡ flat_map (λ c. c.unanswered) (take l.coord-index l.coords)
+invariant-loop-coord l = l.ids.items ≡ flat_map (λ c. c.core.unanswered) (take l.coord-index l.coords)
