@@ -13,9 +13,9 @@ mod CoordNodeLogs
 mod RunLogs
 mod WholeLogs
 mod AllLogs
-mod SideBySide
+pub mod SideBySide
 mod WorldMoves
-mod NodeMoves
-mod SubmitMoves
-mod Woven
+pub mod NodeMoves
+pub mod SubmitMoves
+pub mod Woven
 mod Going

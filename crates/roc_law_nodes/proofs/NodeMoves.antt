@@ -73,7 +73,7 @@ abbrev pub line_in : ℕ × Line → Line
 line_in t = t.1
 
 -- lines, each with its coordinator
-lines_in : (number : ℕ) (told : List (ℕ × Line)) (lines : List Line) → map line_in (told ++ map (λ line. (number, line)) lines) ≡ map line_in told ++ lines
+pub lines_in : (number : ℕ) (told : List (ℕ × Line)) (lines : List Line) → map line_in (told ++ map (λ line. (number, line)) lines) ≡ map line_in told ++ lines
 lines_in number told lines = map-append line_in told (map (λ line. (number, line)) lines) ∙ ap (λ (l : List Line). map line_in told ++ l) (go lines)
   where
     go : (lines : List Line) → map line_in (map (λ line. (number, line)) lines) ≡ lines

@@ -108,17 +108,17 @@ module _ (S : NodeSetting) where
 
 -- ---- lines
 
-lines_more : (number : ℕ) (told more : List (ℕ × Line)) → lines_by number (told ++ more) ≡ lines_by number told ++ lines_by number more
+pub lines_more : (number : ℕ) (told more : List (ℕ × Line)) → lines_by number (told ++ more) ≡ lines_by number told ++ lines_by number more
 lines_more number told more =
     ap (map second) (filter-append (λ (t : ℕ × Line). t.0 == number) told more) ∙ map-append second (filter (λ (t : ℕ × Line). t.0 == number) told) (filter (λ (t : ℕ × Line). t.0 == number) more)
 
-lines_here : (number : ℕ) (lines : List Line) → lines_by number (map (λ line. (number, line)) lines) ≡ lines
+pub lines_here : (number : ℕ) (lines : List Line) → lines_by number (map (λ line. (number, line)) lines) ≡ lines
 lines_here number [] = refl
 lines_here number (line ∷ lines) =
     let rest : List (ℕ × Line) = filter (λ t. t.0 == number) (map (λ line. (number, line)) lines) in
     ap (λ (b : Bool). map second (cond b ((number, line) ∷ rest) rest)) (eq-eqb number number refl) ∙ ap (λ (l : List Line). line ∷ l) (lines_here number lines)
 
-lines_elsewhere : (number other : ℕ) → (number == other) ≡ false → (lines : List Line) → lines_by other (map (λ line. (number, line)) lines) ≡ []
+pub lines_elsewhere : (number other : ℕ) → (number == other) ≡ false → (lines : List Line) → lines_by other (map (λ line. (number, line)) lines) ≡ []
 lines_elsewhere number other e [] = refl
 lines_elsewhere number other e (line ∷ lines) =
     let rest : List (ℕ × Line) = filter (λ t. t.0 == other) (map (λ line. (number, line)) lines) in

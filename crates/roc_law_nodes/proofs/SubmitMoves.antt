@@ -35,7 +35,7 @@ use Rattle.roc_law_nodes.proofs.WorldMoves.{with_own, WorldStands, stands_as, co
 
 -- ---- lists
 
-set_again : {A : Type 0} (xs : List A) (i : ℕ) (a b : A) → slice_set (slice_set xs i a) i b ≡ slice_set xs i b
+pub set_again : {A : Type 0} (xs : List A) (i : ℕ) (a b : A) → slice_set (slice_set xs i a) i b ≡ slice_set xs i b
 set_again [] i a b = refl
 set_again (x ∷ xs) zero a b = refl
 set_again (x ∷ xs) (suc i) a b = ap (λ l. x ∷ l) (set_again xs i a b)
