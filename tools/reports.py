@@ -16,12 +16,16 @@ FORMS = {word: re.compile(word + rest) for word, rest in {
     "submit": f" ({ID}) {NAME}(?: {INTEGER})*",
     "busy": f" ({NUMBER})",
     "spent": f" ({NUMBER})",
+    "draining": f" ({NUMBER})",
+    "noproc": f" ({NUMBER})",
+    "drain": f" (c{NUMBER})",
     "deliver": f" ({NUMBER})",
     "none": "",
     "tick": f" ({NODE})",
     "stop": f" (s{NUMBER})(?: ({NUMBER}) (none|{NUMBER}))?",
     "ignored": f" ({REASON})",
     "gone": "",
+    "skipped": "",
     "send": rf" ({NUMBER}) ([a-z]+) ({ID}) ({NODE}) ({NODE})((?: {EDGE})*)((?: \+{ID})*)",
     "answer": f" ({ID})(?: {INTEGER})*",
     "order": f"((?: {ID})*)",
@@ -123,7 +127,7 @@ class Reader:
             self.take_closing(line, match.groups())
             return
         self.ensure(self.closing == "", "an event behind the line `order`")
-        takers = {"ignored": self.take_untaken, "gone": self.take_untaken, "send": self.take_send, "answer": self.take_answer}
+        takers = {"ignored": self.take_untaken, "gone": self.take_untaken, "skipped": self.take_untaken, "send": self.take_send, "answer": self.take_answer}
         takers.get(word, self.take_event)(line, match.groups())
 
     def take_event(self, line: str, groups: tuple[str, ...]) -> None:
@@ -133,7 +137,7 @@ class Reader:
             event.message = self.report.messages[int(groups[0]) - 1]
             event.message.deliveries.append(event)
             event.node = event.message.receiver
-        elif event.word == "tick":
+        elif event.word in ("tick", "drain"):
             event.node = groups[0]
         elif event.word == "stop":
             event.node = groups[0]
@@ -167,7 +171,7 @@ class Reader:
         self.ensure(int(number) == len(self.report.messages) + 1, f"message {len(self.report.messages) + 1} is the next one")
         self.ensure(sender[0] + receiver[0] == route, f"a {kind} goes another way")
         self.ensure((may_have_edges or not edges) and (may_have_facts or not facts), f"a {kind} carries no such list")
-        self.ensure(event.word in ("submit", "deliver", "tick", "stop") and not event.untaken and not event.answer, "its event sends nothing here")
+        self.ensure(event.word in ("submit", "deliver", "tick", "stop", "drain") and not event.untaken and not event.answer, "its event sends nothing here")
         self.ensure(event.node == sender, f"{sender} sends, and {event.node} acts")
         message = Message(number, kind, named, receiver, edges.split(), facts.split(), event)
         event.sends.append(message)
