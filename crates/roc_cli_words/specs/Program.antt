@@ -28,7 +28,7 @@ many_rule name = record (standing_rule name) { range = Some (record { start_incl
 abbrev pub workload_app : Text → App
 workload_app name = with_rule (new_app name) (standing_rule (codes "workload"))
 
--- `replay W SCHEDULE [--next W2] [--coords M]`
+-- `replay W SCHEDULE [--next GROWN] [--coords M]`
 abbrev pub replay_app : App
 replay_app = with_rule (with_rule (with_rule (workload_app (codes "replay")) (standing_rule (codes "schedule"))) (choice_rule (codes "next"))) (choice_rule (codes "coords"))
 
@@ -36,13 +36,13 @@ replay_app = with_rule (with_rule (with_rule (workload_app (codes "replay")) (st
 abbrev pub cluster_app : Text → App
 cluster_app name = with_rule (workload_app name) (standing_rule (codes "cluster"))
 
--- `serve W CLUSTER --shard N --turns T [--counts] [--journal FILE] [--log FILE] [--next W2] [--coords M]`
+-- `serve W CLUSTER --shard N --turns T [--counts] [--journal FILE] [--log FILE] [--next GROWN] [--coords M]`
 abbrev pub serve_app : App
 serve_app =
     with_rule (with_rule (with_rule (with_rule (with_rule (with_rule (with_rule (cluster_app (codes "serve")) (named_rule (codes "shard"))) (named_rule (codes "turns")))
     (flag_rule (codes "counts"))) (choice_rule (codes "journal"))) (choice_rule (codes "log"))) (choice_rule (codes "next"))) (choice_rule (codes "coords"))
 
--- `submit W CLUSTER REQUESTS --coord C --turns T [--log FILE] [--next W2] [--then REQUESTS2]`
+-- `submit W CLUSTER REQUESTS --coord C --turns T [--log FILE] [--next GROWN] [--then REQUESTS2]`
 abbrev pub submit_app : App
 submit_app =
     with_rule (with_rule (with_rule (with_rule (with_rule (with_rule (cluster_app (codes "submit")) (standing_rule (codes "requests"))) (named_rule (codes "coord"))) (named_rule (codes "turns")))
