@@ -125,6 +125,9 @@ module _ (call : WholeCall) where
     refused = λ e. absurd (omega arith);
     no_workload = λ lacks. absurd (not_undone (laws.workloadless lacks).is done);
     no_schedule = λ lacks. absurd (not_undone (laws.scheduleless lacks).is done);
+    no_cluster = λ lacks. absurd (not_undone (laws.clusterless lacks).is done);
+    no_requests = λ lacks. absurd (not_undone (laws.listless lacks).is done);
+    faulty = λ line lacks. absurd (not_undone (laws.faulty line lacks).is.is done);
     no_logs = λ lacks. absurd (not_undone (laws.logless lacks).is done);
     memory = λ e. absurd (omega arith);
     unanswered = λ e. absurd (omega arith);

@@ -6,6 +6,7 @@ use Rattle.roc_cli.proofs.FittingReplays.{faultless}
 use Rattle.roc_cli.proofs.FittingNodes.{nodes_faultless, shardless}
 use Rattle.roc_cli.proofs.FittingLogs.{auditable}
 use Rattle.roc_cli.proofs.HonestLogs.{explicable}
+use Rattle.roc_cli.proofs.UnfittingLists.{unclustered, unlisted, said_by}
 use Rattle.roc_cli.proofs.UnfittingLogs.{unjudged}
 use Rattle.roc_cli.proofs.UnfittingReplays.{unplayed}
 use Rattle.roc_cli.proofs.UnfittingNodes.{unplanned, unwritten}
@@ -20,5 +21,8 @@ fitting laws call = record {
   scheduleless = unplayed laws call;
   audits = auditable laws call.run;
   honest = explicable laws call.run;
+  clusterless = unclustered laws call;
+  listless = unlisted laws call;
+  faulty = said_by laws call;
   logless = unjudged laws call;
 }

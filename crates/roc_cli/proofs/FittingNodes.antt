@@ -15,6 +15,7 @@ use Rattle.roc_cluster.specs.declared.fault.ClusterFault.TheVariants as cluster_
 use Rattle.roc_cluster.specs.File.{IsClusterFile}
 use Rattle.roc_cluster.specs.Answer.{IsFirstIn, IsClusterFault}
 use Rattle.roc_sched.specs.declared.fault.What.{What}
+use Rattle.roc_sched.specs.FaultText.{what_text}
 use Rattle.roc_sched.specs.declared.line.Request.{Request}
 use Rattle.roc_sched.specs.Schedule.{most_bytes}
 use Rattle.roc_replay.specs.BoundLine.{last_program}
@@ -23,6 +24,7 @@ use Rattle.roc_cli_nodes.specs.Call.{RunCall, WholeCall}
 use Rattle.roc_cli_nodes.specs.Words.{IsReplay, node_files, workload_of, NamesProgram, NamesWorkload, NamesNodeFiles}
 use Rattle.roc_cli_files.specs.Held.{NodeFiles, HasShard, HoldsMore, HoldsPlan, HoldsRejected, HoldsNoCluster, HoldsNoRequests}
 use Rattle.roc_cli_files.specs.NodeNames.{tag_of_bytes, HoldFirst, HoldsNext, HoldsNoGrowth, HoldsGrowth}
+use Rattle.roc_cli_files.specs.Says.{long_line, fault_line}
 use Rattle.roc_cli_files.specs.Requests.{request_fault, FitEach, IsFirstUnfitRequest, IsRequestsFault, no_requests, unfit_request}
 use Rattle.roc_cli_nodes.specs.NodeEnds.{NodesEnd}
 use Rattle.roc_cli_nodes.specs.Nodes.{AreNodesEnded, IsChildBlamed}
@@ -31,7 +33,7 @@ use Rattle.roc_cli.specs.Refused.{IsRefusedNext, long_next, no_next_text, next_o
 use Rattle.roc_cli.specs.Stopped.{CutsOutput, in_report, in_text, in_check, in_rejection, in_generated, in_verdict}
 use Rattle.roc_cli.specs.Refused.{AreRefusedWords, by_clap, no_value, no_shard, IsRefused, long_workload, no_text, out_of_scope, long_schedule, bad_next, bad_schedule, long_cluster}
 use Rattle.roc_cli.specs.Refused.{bad_cluster, long_requests, bad_requests, bad_logs}
-use Rattle.roc_cli.specs.Fit.{IsListOfRequests, TellsNext, NodesAsked, NodeFilesFit, NodesFit, MissesShard}
+use Rattle.roc_cli.specs.Fit.{IsListOfRequests, TellsNext, TellsFollowing, NodesAsked, NodeFilesFit, NodesFit, MissesShard}
 use Rattle.roc_cli.specs.Inner.Ends.{Ends}
 use Rattle.roc_cli.specs.Inner.Faultless.{IsFaultless, IsShardless}
 use Rattle.roc_cli.proofs.Commands.{audit_alone, audited_words, refuted_words, refused_logs}
@@ -55,10 +57,10 @@ there_or_past : (files : NodeFiles) (plan : Plan) (number : ℕ) → HasShard fi
 there_or_past files plan number has asked past = let below : number < plan.program.shards = subst (λ o. IfSome o (λ n. n < plan.program.shards)) asked has in absurd (omega arith)
 
 -- a list that is told has not too many bytes, and no fault
-list_is_short : (content : List ℕ → Option (List ℕ)) (program : Workload) (name : List ℕ) → IsListOfRequests content program name → HoldsMore content name most_bytes → ⊥
+pub list_is_short : (content : List ℕ → Option (List ℕ)) (program : Workload) (name : List ℕ) → IsListOfRequests content program name → HoldsMore content name most_bytes → ⊥
 list_is_short content program name list more = let past = told_more content name name list.text most_bytes list.held refl more in let size = list.few in absurd (omega arith)
 
-list_is_right : (laws : TextLaws) (content : List ℕ → Option (List ℕ)) (program : Workload) (name : List ℕ) (line : ℕ) (what : What) → IsListOfRequests content program name
+pub list_is_right : (laws : TextLaws) (content : List ℕ → Option (List ℕ)) (program : Workload) (name : List ℕ) (line : ℕ) (what : What) → IsListOfRequests content program name
     → HoldsNoRequests content name program line what → ⊥
 list_is_right laws content program name line what list held = go (subst (λ b. IsRequestsFault program b line what) (sym (told content name name list.text held.bytes list.held refl held.held)) held.fault)
   where
@@ -140,26 +142,30 @@ module _ (laws : TextLaws) (call : RunCall) where
           (subst (λ (g : Option (List ℕ × ℕ)). HoldsGrowth content g plan.program comes.tag next) (ap (λ (f : NodeFiles). f.next) (their_files comes.files comes.named)) comes.follows))
 
     -- only a workload to grow to, and what is behind it, is refused
-    pub asked_right : ((line : List ℕ) → IsRefusedNext call line → ⊥) → (line : List ℕ) → IsRefused call line → ⊥
-    asked_right none _ (long_workload workload names more same) =
-        not_long laws content asked.files.workload asked.bytes asked.held asked.planned.text.tree asked.planned.text.text workload (their_workload workload names) more
-    asked_right none _ (no_text workload line what names held same) =
-        not_faulty laws content asked.files.workload asked.bytes asked.held asked.planned.text.tree asked.planned.text.text workload line what (their_workload workload names) held
-    asked_right none _ (out_of_scope workload fault names held same) =
-        in_scope laws content asked.files.workload asked.bytes asked.held asked.plan.program asked.planned.text workload fault (their_program workload names) held
-    asked_right none _ (long_schedule workload schedule growth plan given planned more same) = no_replay workload schedule growth given
-    asked_right none _ (bad_next line refused same) = none line refused
-    asked_right none _ (bad_schedule plan next bytes of number what h) = no_replay of.under.workload of.under.schedule of.under.growth of.under.given
-    asked_right none _ (long_cluster files plan names planned more same) =
+    pub asked_by : (P : List ℕ → Type 0) → ((line : List ℕ) → IsRefusedNext call line → P line) → (line : List ℕ) → IsRefused call line → P line
+    asked_by P next _ (long_workload workload names more same) =
+        absurd (not_long laws content asked.files.workload asked.bytes asked.held asked.planned.text.tree asked.planned.text.text workload (their_workload workload names) more)
+    asked_by P next _ (no_text workload line what names held same) =
+        absurd (not_faulty laws content asked.files.workload asked.bytes asked.held asked.planned.text.tree asked.planned.text.text workload line what (their_workload workload names) held)
+    asked_by P next _ (out_of_scope workload fault names held same) =
+        absurd (in_scope laws content asked.files.workload asked.bytes asked.held asked.plan.program asked.planned.text workload fault (their_program workload names) held)
+    asked_by P next _ (long_schedule workload schedule growth plan given planned more same) = absurd (no_replay workload schedule growth given)
+    asked_by P next _ (bad_next line refused same) = next line refused
+    asked_by P next _ (bad_schedule plan following bytes of number what h) = absurd (no_replay of.under.workload of.under.schedule of.under.growth of.under.given)
+    asked_by P next _ (long_cluster files plan names planned more same) =
         let past = told_more content asked.files.cluster files.cluster asked.text text_limit asked.clustered (ap (λ (f : NodeFiles). f.cluster) (their_files files names)) more in
         let size = asked.few in
         absurd (omega arith)
-    asked_right none _ (bad_cluster files plan fault names planned held same) = no_bad_cluster files plan fault names planned held
-    asked_right none _ (long_requests files plan addrs name names planned held is more same) = list_is_short content asked.plan.program name (listed_in files name names is) more
-    asked_right none _ (bad_requests files plan addrs name number what names planned held is not same) =
-        list_is_right laws content asked.plan.program name number what (listed_in files name names is)
-        (subst (λ (p : Plan). HoldsNoRequests content name p.program number what) (their_plan files plan names planned) not)
-    asked_right none _ (bad_logs line refused same) = audit_alone call.words (refused_logs call line refused) (asked.files, asked.given)
+    asked_by P next _ (bad_cluster files plan fault names planned held same) = absurd (no_bad_cluster files plan fault names planned held)
+    asked_by P next _ (long_requests files plan addrs name names planned held is more same) =
+        absurd (list_is_short content asked.plan.program name (listed_in files name names is) more)
+    asked_by P next _ (bad_requests files plan addrs name number what names planned held is not same) =
+        absurd (list_is_right laws content asked.plan.program name number what (listed_in files name names is)
+        (subst (λ (p : Plan). HoldsNoRequests content name p.program number what) (their_plan files plan names planned) not))
+    asked_by P next _ (bad_logs line refused same) = absurd (audit_alone call.words (refused_logs call line refused) (asked.files, asked.given))
+
+    pub asked_right : ((line : List ℕ) → IsRefusedNext call line → ⊥) → (line : List ℕ) → IsRefused call line → ⊥
+    asked_right = asked_by (λ _. ⊥)
 
     -- only a workload to grow to is not acceptable
     pub asked_acceptable : ((name : List ℕ) (plan : Plan) (program : Workload) (said : Line) → ComesToNext call name plan → HoldsRejected content name program said → ⊥)
@@ -168,61 +174,80 @@ module _ (laws : TextLaws) (call : RunCall) where
         not_rejected laws content asked.files.workload asked.bytes asked.held asked.plan asked.planned name program said (their_program name names) held
     asked_acceptable none name program said (inr (plan, comes)) held = none name plan program said comes held
 
-  -- ---- all files
+  -- ---- a workload to grow to that is right
 
-  module _ (fit : NodeFilesFit call) where
-    abbrev before : NodesAsked call
-    before = fit.asked
-
-    grows_told : (name : List ℕ) (plan : Plan) → ComesToNext call name plan
-        → (coords : ℕ) × (next : Next) × TellsNext call.files.content name before.plan coords next × (fit.next ≡ Some next)
+  module _ (before : NodesAsked call) (next : Option Next) (following : TellsFollowing call.files.content before.plan before.files.next next)
+      (apart : IfSome next (λ (n : Next). n.tag ≢ tag_of_bytes before.bytes)) where
+    grows_told : (name : List ℕ) (plan : Plan) → ComesToNext call name plan → (coords : ℕ) × (n : Next) × TellsNext call.files.content name before.plan coords n × (next ≡ Some n)
     grows_told name plan comes =
         let found = comes_named before name plan comes in
-        let tells = told_next call.files.content before.plan name found.0 before.files.next fit.next found.1 fit.following in
+        let tells = told_next call.files.content before.plan name found.0 before.files.next next found.1 following in
         (found.0, tells.0, tells.1, tells.2)
 
     -- the one that is told has another tag
-    other_tag : (next : Next) → fit.next ≡ Some next → next.tag ≢ tag_of_bytes before.bytes
-    other_tag next is = subst (λ o. IfSome o (λ (n : Next). n.tag ≢ tag_of_bytes before.bytes)) is fit.apart
+    other_tag : (n : Next) → next ≡ Some n → n.tag ≢ tag_of_bytes before.bytes
+    other_tag n is = subst (λ o. IfSome o (λ (m : Next). m.tag ≢ tag_of_bytes before.bytes)) is apart
 
-    -- the requests to submit then are told
-    behind_told : (name : List ℕ) (plan : Plan) (next : Option Next) → ComesToLater call name plan next → IsListOfRequests call.files.content (last_program plan next) name
-    behind_told name plan next comes =
-        let n : next ≡ fit.next = same_grown laws call.files.content before.plan (tag_of_bytes before.bytes) before.files.next fit.next next fit.following (later_follows before name plan next comes) in
-        let list : IsListOfRequests call.files.content (last_program before.plan fit.next) name =
-        subst (λ o. IfSome o (IsListOfRequests call.files.content (last_program before.plan fit.next))) (later_named before name plan next comes) fit.behind in
-        subst (λ (p : Plan). IsListOfRequests call.files.content (last_program p next) name) (sym (later_plan before name plan next comes))
-        (subst (λ (m : Option Next). IsListOfRequests call.files.content (last_program before.plan m) name) (sym n) list)
+    -- and follows, where requests to submit then are read
+    pub next_told : (name : List ℕ) (plan : Plan) (n : Option Next) → ComesToLater call name plan n → n ≡ next
+    next_told name plan n comes =
+        same_grown laws call.files.content before.plan (tag_of_bytes before.bytes) before.files.next next n following (later_follows before name plan n comes)
 
-    no_bad_next : (line : List ℕ) → IsRefusedNext call line → ⊥
-    no_bad_next _ (long_next name plan comes more) =
-        let t = grows_told name plan comes in not_long laws call.files.content name t.2.bytes t.2.held t.2.planned.text.tree t.2.planned.text.text name refl more
-    no_bad_next _ (no_next_text name plan line what comes not) =
-        let t = grows_told name plan comes in not_faulty laws call.files.content name t.2.bytes t.2.held t.2.planned.text.tree t.2.planned.text.text name line what refl not
-    no_bad_next _ (next_out_of_scope name plan fault comes not) =
-        let t = grows_told name plan comes in in_scope laws call.files.content name t.2.bytes t.2.held t.1.plan.program t.2.planned.text name fault refl not
-    no_bad_next _ (no_growth name plan fault comes not) =
+    -- only these requests are refused
+    pub next_by : (P : List ℕ → Type 0)
+        → ((name : List ℕ) (plan : Plan) (n : Option Next) → ComesToLater call name plan n → HoldsMore call.files.content name most_bytes → P (long_line name))
+        → ((name : List ℕ) (plan : Plan) (n : Option Next) (number : ℕ) (what : What) → ComesToLater call name plan n
+        → HoldsNoRequests call.files.content name (last_program plan n) number what → P (fault_line name number (what_text what)))
+        → (line : List ℕ) → IsRefusedNext call line → P line
+    next_by P long bad _ (long_next name plan comes more) =
+        let t = grows_told name plan comes in absurd (not_long laws call.files.content name t.2.bytes t.2.held t.2.planned.text.tree t.2.planned.text.text name refl more)
+    next_by P long bad _ (no_next_text name plan line what comes not) =
+        let t = grows_told name plan comes in absurd (not_faulty laws call.files.content name t.2.bytes t.2.held t.2.planned.text.tree t.2.planned.text.text name line what refl not)
+    next_by P long bad _ (next_out_of_scope name plan fault comes not) =
+        let t = grows_told name plan comes in absurd (in_scope laws call.files.content name t.2.bytes t.2.held t.1.plan.program t.2.planned.text name fault refl not)
+    next_by P long bad _ (no_growth name plan fault comes not) =
         let t = grows_told name plan comes in
-        is_grown laws call.files.content before.plan name t.0 t.1 t.2 fault (subst (λ (p : Plan). HoldsNoGrowth call.files.content name p.program fault) (comes_plan before name plan comes) not)
-    no_bad_next _ (same_tag files plan tag addrs requests name coords next named held is follows same) =
+        absurd (is_grown laws call.files.content before.plan name t.0 t.1 t.2 fault
+        (subst (λ (p : Plan). HoldsNoGrowth call.files.content name p.program fault) (comes_plan before name plan comes) not))
+    next_by P long bad _ (same_tag files plan tag addrs requests name coords n named held is follows same) =
         let known = first_next before files plan tag addrs requests named held name coords is in
-        let t = told_next call.files.content before.plan name coords before.files.next fit.next known fit.following in
-        let e : next ≡ t.0 =
-        same_next laws call.files.content before.plan name coords t.0 next t.1 (subst (λ (p : Plan). HoldsNext call.files.content name p.program coords next) (first_plan before files plan tag addrs requests named held) follows) in
-        other_tag t.0 t.2 (ap (λ (n : Next). n.tag) (sym e) ∙ (same ∙ first_tag before files plan tag addrs requests named held))
-    no_bad_next _ (long_later name plan next comes more) = list_is_short call.files.content (last_program plan next) name (behind_told name plan next comes) more
-    no_bad_next _ (bad_later name plan next number what comes not) =
-        list_is_right laws call.files.content (last_program plan next) name number what (behind_told name plan next comes) not
-
-    pub nodes_right : (line : List ℕ) → IsRefused call line → ⊥
-    nodes_right = asked_right before no_bad_next
+        let t = told_next call.files.content before.plan name coords before.files.next next known following in
+        let e : n ≡ t.0 =
+        same_next laws call.files.content before.plan name coords t.0 n t.1 (subst (λ (p : Plan). HoldsNext call.files.content name p.program coords n) (first_plan before files plan tag addrs requests named held) follows) in
+        absurd (other_tag t.0 t.2 (ap (λ (m : Next). m.tag) (sym e) ∙ (same ∙ first_tag before files plan tag addrs requests named held)))
+    next_by P long bad _ (long_later name plan n comes more) = long name plan n comes more
+    next_by P long bad _ (bad_later name plan n number what comes not) = bad name plan n number what comes not
 
     no_bad_workload : (name : List ℕ) (plan : Plan) (program : Workload) (said : Line) → ComesToNext call name plan → HoldsRejected call.files.content name program said → ⊥
     no_bad_workload name plan program said comes held =
         let t = grows_told name plan comes in not_rejected laws call.files.content name t.2.bytes t.2.held t.1.plan t.2.planned name program said refl held
 
+    pub next_unrejected : (workload : List ℕ) (program : Workload) (said : Line) → ComesToWorkload call workload → HoldsRejected call.files.content workload program said → ⊥
+    next_unrejected = asked_acceptable before no_bad_workload
+
+  -- ---- all files
+
+  module _ (fit : NodeFilesFit call) where
+    -- the requests to submit then are told
+    behind_told : (name : List ℕ) (plan : Plan) (next : Option Next) → ComesToLater call name plan next → IsListOfRequests call.files.content (last_program plan next) name
+    behind_told name plan next comes =
+        let list : IsListOfRequests call.files.content (last_program fit.asked.plan fit.next) name =
+        subst (λ o. IfSome o (IsListOfRequests call.files.content (last_program fit.asked.plan fit.next))) (later_named fit.asked name plan next comes) fit.behind in
+        subst (λ (p : Plan). IsListOfRequests call.files.content (last_program p next) name) (sym (later_plan fit.asked name plan next comes))
+        (subst (λ (m : Option Next). IsListOfRequests call.files.content (last_program fit.asked.plan m) name)
+        (sym (next_told fit.asked fit.next fit.following fit.apart name plan next comes)) list)
+
+    no_bad_next : (line : List ℕ) → IsRefusedNext call line → ⊥
+    no_bad_next =
+        next_by fit.asked fit.next fit.following fit.apart (λ _. ⊥)
+        (λ name plan next comes more. list_is_short call.files.content (last_program plan next) name (behind_told name plan next comes) more)
+        (λ name plan next number what comes not. list_is_right laws call.files.content (last_program plan next) name number what (behind_told name plan next comes) not)
+
+    pub nodes_right : (line : List ℕ) → IsRefused call line → ⊥
+    nodes_right = asked_right fit.asked no_bad_next
+
     pub no_rejection : (workload : List ℕ) (program : Workload) (said : Line) → ComesToWorkload call workload → HoldsRejected call.files.content workload program said → ⊥
-    no_rejection = asked_acceptable before no_bad_workload
+    no_rejection = next_unrejected fit.asked fit.next fit.following fit.apart
 
   module _ (fit : NodesFit call) where
     nodes_taken : (line : List ℕ) → AreRefusedWords call line → ⊥

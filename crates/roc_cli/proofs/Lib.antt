@@ -12,6 +12,10 @@ pub mod Fits
 pub mod Unfitting
 pub mod UnfittingReplays
 pub mod UnfittingNodes
+mod FaultyFiles
+mod ToldLists
+mod NothingDone
+mod UnfittingLists
 mod Verdicts
 mod FittingLogs
 mod HonestLogs

@@ -20,7 +20,7 @@ use Rattle.roc_cli.specs.Stopped.{IsUnread, RunsOut, with_nothing, with_lines, C
 use Rattle.roc_cli.specs.Refused.{AreRefusedWords, IsRefused, RefusesJournal, long_workload, no_text, out_of_scope, long_schedule, bad_next, bad_schedule, long_cluster, bad_cluster}
 use Rattle.roc_cli.specs.Refused.{long_requests, bad_requests, bad_logs}
 use Rattle.roc_cli.specs.Status.{IsOneOf, Answers}
-use Rattle.roc_cli.specs.Inner.Faultless.{IsFaultless, IsShardless, IsUndone, IsUnplanned, IsUnwritten, IsUnplayed, IsAuditable, IsExplicable, AreFitting}
+use Rattle.roc_cli.specs.Inner.Faultless.{IsFaultless, IsShardless, IsUndone, IsUnplanned, IsUnwritten, IsSaidBy, IsUnplayed, IsAuditable, IsExplicable, AreFitting}
 use Rattle.roc_cli_files.specs.Fault.{IsTold, EndsWith, line_of, Blames}
 use Rattle.roc_cli.specs.Inner.Ends.{RefusesWords, Fails, WholeEnds}
 use Rattle.roc_cli_nodes.specs.Ends.{LoopEnded}
@@ -347,6 +347,14 @@ module _ (call : WholeCall) (err : Errors) where
   of_scheduleless status line h lacks =
       of_undone (3 ∷ 4 ∷ 6 ∷ 7 ∷ []) status line h lacks.is (λ r. absurd (lacks.acceptable r)) (λ said r. inl refl) (λ c. inr (inr (inr (inl refl)))) (inr (inl refl)) (inr (inr (inl refl)))
 
+  of_faulty : (status : ℕ) (line : List ℕ) → IsFailure call status line → SaysUnlessSilent err status line → (due : List ℕ) → IsSaidBy call due
+      → IsOneOf (3 ∷ 4 ∷ 6 ∷ []) status × (status ≡ 3 → Says err due)
+  of_faulty status line h says due is = (of_workloadless status line h is.is, λ e. go (at_refused status line h says e))
+    where
+      go : ((other : List ℕ) × IsRefused call.run other × Says err other) ⊎ ((name : List ℕ) × RefusesJournal call name × Says err (journal_line name)) → Says err due
+      go (inl (other, wrong, told)) = subst (Says err) (is.only other wrong) told
+      go (inr (name, journal, told)) = absurd (is.is.is.unrun _ (keeper_ended call name (serve_end.Journal journal.0) journal.1))
+
   pub fault_answers : (fault : Fault) (status : ℕ) → AreFitting call → WholeEnds call (Err fault) → Blames call.run.files.failed_old call.run.files.failed_new fault → IsTold fault status err → Answers call err status
   fault_answers fault status laws fails blames told =
       let h : IsSaid call err status = said_whole fault status fails blames told in
@@ -374,6 +382,9 @@ module _ (call : WholeCall) (err : Errors) where
         refused = at_refused status h.line h.is h.says;
         no_workload = λ lacks. of_workloadless status h.line h.is (laws.workloadless lacks);
         no_schedule = λ lacks. of_scheduleless status h.line h.is (laws.scheduleless lacks);
+        no_cluster = λ lacks. of_workloadless status h.line h.is (laws.clusterless lacks);
+        no_requests = λ lacks. of_workloadless status h.line h.is (laws.listless lacks);
+        faulty = λ line lacks. of_faulty status h.line h.is h.says line (laws.faulty line lacks);
         no_logs = λ lacks. of_workloadless status h.line h.is (laws.logless lacks);
         memory = at_memory status h.line h.is h.says;
         unanswered = at_unanswered status h.line h.is;

@@ -15,7 +15,7 @@ use Rattle.roc_cli_nodes.specs.Nodes.{ServeEnded, GrownServeEnded, SubmitEnded, 
 use Rattle.roc_cli.specs.Audited.{Audits, Refutes}
 use Rattle.roc_cli.specs.Fit.{IsFit, AuditFits, NodesFit, MissesShard}
 use Rattle.roc_cli.specs.Honest.{HonestFits}
-use Rattle.roc_cli.specs.Unfit.{LacksPlan, LacksWorkload, LacksSchedule, LacksLogs}
+use Rattle.roc_cli.specs.Unfit.{LacksPlan, LacksWorkload, LacksSchedule, LacksCluster, LacksRequests, HasFaultyFile, LacksLogs}
 use Rattle.roc_cli.specs.Refused.{AreRefusedWords, IsRefused, RefusesJournal}
 use Rattle.roc_cli.specs.Stopped.{IsUnread, RunsOut, CutsOutput}
 
@@ -67,11 +67,14 @@ pub record Answers (call : WholeCall) (err : Errors) (status : ℕ) : Type 0 whe
   pub no_shard : MissesShard call.run → IsOneOf (2 ∷ 4 ∷ 6 ∷ []) status
   -- 3: a file is too long, no text of its grammar, out of scope, or does not fit the plan or the run; a workload is no grown one, or nodes could not tell it
   -- from the first; a shard has no log; or a journal is refused. Exactly so for the workload of any command, one to grow to once what is read before is right,
-  -- the schedule of a replay and the logs of an audit, unless memory or a file failed it before, or standard output at the lines before that of a message that
-  -- was not sent
+  -- the schedule of a replay, the cluster file and the request files of a command with nodes and the logs of an audit, unless memory or a file failed it before,
+  -- or standard output at the lines before that of a message that was not sent. Of a cluster file and of a request file it is the first fault that is said
   pub refused : status ≡ 3 → ((line : List ℕ) × IsRefused call.run line × Says err line) ⊎ ((name : List ℕ) × RefusesJournal call name × Says err (journal_line name))
   pub no_workload : LacksWorkload call.run → IsOneOf (3 ∷ 4 ∷ 6 ∷ []) status
   pub no_schedule : LacksSchedule call.run → IsOneOf (3 ∷ 4 ∷ 6 ∷ 7 ∷ []) status
+  pub no_cluster : LacksCluster call.run → IsOneOf (3 ∷ 4 ∷ 6 ∷ []) status
+  pub no_requests : LacksRequests call.run → IsOneOf (3 ∷ 4 ∷ 6 ∷ []) status
+  pub faulty : (line : List ℕ) → HasFaultyFile call.run line → IsOneOf (3 ∷ 4 ∷ 6 ∷ []) status × (status ≡ 3 → Says err line)
   pub no_logs : LacksLogs call.run → IsOneOf (3 ∷ 4 ∷ 6 ∷ []) status
   -- 4: no memory, if only for the line of status 3 or 9
   pub memory : status ≡ 4 → (RunsOut call.run ⊎ (AreNodesEnded call nodes_end.NoMemory ⊎ BlamesAnyChild call)) × Says err (word_line (codes "memory"))

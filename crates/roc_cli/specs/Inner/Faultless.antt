@@ -1,5 +1,5 @@
 -- Calls that nothing is wrong with, calls for a shard that the workload lacks, and calls that cannot be done
-use Rattle.std.specs.Prelude.{ℕ, List, Option, Ok}
+use Rattle.std.specs.Prelude.{◌≡◌, ℕ, List, Option, Ok}
 use Rattle.roc_base.specs.declared.node.Shard.{Shard}
 use Rattle.roc_cli_nodes.specs.Call.{RunCall, WholeCall}
 use Rattle.roc_cli.specs.Done.{Rejects}
@@ -11,7 +11,7 @@ use Rattle.roc_cli.specs.Refused.{AreRefusedWords, IsRefused}
 use Rattle.roc_cli.specs.Stopped.{CutsOutput}
 use Rattle.roc_cli.specs.Fit.{IsFit, AuditFits, NodesFit, MissesShard}
 use Rattle.roc_cli.specs.Honest.{HonestFits}
-use Rattle.roc_cli.specs.Unfit.{LacksPlan, LacksWorkload, LacksSchedule, LacksLogs}
+use Rattle.roc_cli.specs.Unfit.{LacksPlan, LacksWorkload, LacksSchedule, LacksCluster, LacksRequests, HasFaultyFile, LacksLogs}
 use Rattle.roc_cli.specs.Inner.Ends.{Ends}
 
 -- the words are taken, and no file is to blame
@@ -49,6 +49,11 @@ pub record IsUnwritten (call : WholeCall) : Type 0 where
   pub acceptable : Rejects call.run → ⊥
   pub uncut : CutsOutput call.run → ⊥
 
+-- ..and a file that is refused is said to be so by this line
+pub record IsSaidBy (call : WholeCall) (line : List ℕ) : Type 0 where
+  pub is : IsUnwritten call
+  pub only : (said : List ℕ) → IsRefused call.run said → said ≡ line
+
 -- ..or none is rejected
 pub record IsUnplayed (call : WholeCall) : Type 0 where
   pub is : IsUndone call
@@ -74,4 +79,7 @@ pub record AreFitting (call : WholeCall) : Type 0 where
   pub scheduleless : LacksSchedule call.run → IsUnplayed call
   pub audits : AuditFits call.run → IsAuditable call.run
   pub honest : HonestFits call.run → IsExplicable call.run
+  pub clusterless : LacksCluster call.run → IsUnwritten call
+  pub listless : LacksRequests call.run → IsUnwritten call
+  pub faulty : (line : List ℕ) → HasFaultyFile call.run line → IsSaidBy call line
   pub logless : LacksLogs call.run → IsUnwritten call

@@ -51,8 +51,13 @@ pub record TextLaws : Type 0 where
   pub no_cluster_fault :
       (shards : ℕ) (bytes : List ℕ) (cluster : List Addr) (fault : ClusterFault) → IsClusterFile shards bytes cluster → IsClusterFault shards bytes fault
       → fault ≡ NoMemory
+  pub one_cluster_fault :
+      (shards : ℕ) (bytes : List ℕ) (some other : ClusterFault) → IsClusterFault shards bytes some → IsClusterFault shards bytes other → (some ≡ NoMemory → ⊥) → (other ≡ NoMemory → ⊥)
+      → some ≡ other
   pub one_list : (text : List ℕ) (some others : List Request) → AreRequests text some → AreRequests text others → some ≡ others
   pub no_list_fault : (text : List ℕ) (requests : List Request) (line : ℕ) (what : ScheduleWhat) → AreRequests text requests → IsRequestFault text line what → ⊥
+  pub one_list_fault :
+      (text : List ℕ) (line other : ℕ) (what cause : ScheduleWhat) → IsRequestFault text line what → IsRequestFault text other cause → (line ≡ other) × (what ≡ cause)
   pub no_text_fault :
       (plan : Plan) (next : Option Next) (text : List ℕ) (lines : List BoundLine) → IsScheduleOf plan next text lines → AsksOnlySent plan next lines
       → (number : ℕ) (fault : ScheduleWhat) (old new : Option (List ℕ)) → IsTextFault plan next text number fault old new → ⊥
