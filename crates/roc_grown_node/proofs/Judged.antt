@@ -13,7 +13,7 @@ use Rattle.roc_wire.specs.declared.fault.WireFault.{WireFault}
 use Rattle.roc_wire.specs.declared.header.Header.{Header}
 use Rattle.roc_wire.specs.Reading.{datagram, pair}
 use Rattle.roc_grown_node.specs.declared.judging.GrownJudged.TheVariants.{Delivery, Skipped}
-use Rattle.roc_grown_node.specs.Judgement.{has_tag, is_delivered, is_past, grown_judged, where_delivered}
+use Rattle.roc_grown_node.specs.Judgement.{has_grown_tag, is_delivered, is_past, grown_judged, where_delivered}
 use Rattle.roc_grown_node.specs.Posting.{header_for}
 use Rattle.roc_grown_node.specs.Setting.{GrownNodeSetting, HaveSameTags, own_tag}
 
@@ -97,6 +97,6 @@ module _ (S T : GrownNodeSetting) (same : HaveSameTags S T) (apart : S.next.tag 
   sent_is_judged sender receiver msg bytes here read =
       let h = header_for S sender msg in
       ap (where_delivered T receiver) read
-      ∙ ap (λ p. if not p && has_tag T receiver h.tag msg then Delivery h (file_of receiver msg) msg else Skipped Tag) here
+      ∙ ap (λ p. if not p && has_grown_tag T receiver h.tag msg then Delivery h (file_of receiver msg) msg else Skipped Tag) here
       ∙ ap (λ b. if b then Delivery h (file_of receiver msg) msg else Skipped Tag) (tags_tell (is_between msg) sender receiver)
       ∙ pick (is_for receiver (file_of sender msg) msg) h (file_of receiver msg) (file_of sender msg) msg (file_kept (is_between msg) sender receiver)

@@ -19,12 +19,12 @@ is_past coords (Server shard) = false
 is_past coords (Coord number) = not (nat_lt number coords)
 
 -- the tag of the file that the node runs, or the first file's on a drained or a switched
-abbrev pub has_tag : GrownNodeSetting → (switched : Bool) → (tag : List ℕ) → Msg → Bool
-has_tag S switched tag msg = bytes_eq tag (own_tag S switched) || (is_between msg && bytes_eq tag S.header.tag)
+abbrev pub has_grown_tag : GrownNodeSetting → (switched : Bool) → (tag : List ℕ) → Msg → Bool
+has_grown_tag S switched tag msg = bytes_eq tag (own_tag S switched) || (is_between msg && bytes_eq tag S.header.tag)
 
 -- a message is taken where it is of no coordinator past the last one, and has such a tag
 abbrev pub is_delivered : GrownNodeSetting → (switched : Bool) → Header → Msg → Bool
-is_delivered S switched header msg = not (is_past S.next.coords header.from) && has_tag S switched header.tag msg
+is_delivered S switched header msg = not (is_past S.next.coords header.from) && has_grown_tag S switched header.tag msg
 
 -- what was read is a delivery of the file that the node runs, or of neither; or it is skipped for the tag
 abbrev pub where_delivered : GrownNodeSetting → (switched : Bool) → Result (Header × Msg) WireFault → GrownJudged

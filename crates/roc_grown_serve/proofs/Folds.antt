@@ -24,8 +24,8 @@ use Rattle.roc_grown_node.specs.Judgement.{grown_judged}
 use Rattle.roc_grown_node.specs.Posting.{Filed, filed}
 use Rattle.roc_grown_node.specs.Setting.{GrownNodeSetting}
 use Rattle.roc_grown_node.proofs.Judged.{delivered_file}
-use Rattle.roc_grown_serve.specs.Fold.{Brought, came, CoreSteps, IsCoreFold, event_brings, judged_brings, no_event, one_event_more}
-use Rattle.roc_grown_serve.specs.GrownRun.{GrownNodeState, AfterEvent, IsGrownRunFrom, TakesJudged, TakesMessage, begun, goes_on, grown_heard, grown_received}
+use Rattle.roc_grown_serve.specs.Fold.{Brought, came, CoreSteps, IsCoreFold, event_brings, grown_judged_brings, no_event, one_event_more}
+use Rattle.roc_grown_serve.specs.GrownRun.{GrownNodeState, AfterGrownEvent, IsGrownRunFrom, TakesGrownJudged, TakesGrownMessage, begun, goes_on, grown_heard, grown_received}
 
 -- ---- a core skips no delivery
 
@@ -77,19 +77,19 @@ Leads S node next brought = (outs : List Filed) × CoreSteps S node.state brough
 
 module _ (S : GrownNodeSetting) (node next : GrownNodeState) where
   message_leads : (file : File) (msg : Msg) → file ≡ file_of node.state.switched msg → (packet : Packet) (header : Header) (stops : Bool)
-      → TakesMessage S (grown_heard node header packet.address) stops file msg next → Leads S node next (if stops then None else Some (came file msg))
+      → TakesGrownMessage S (grown_heard node header packet.address) stops file msg next → Leads S node next (if stops then None else Some (came file msg))
   message_leads file msg is packet header true h =
       ([], (ap (λ (n : GrownNodeState). n.state) h, refl), ap (λ (n : GrownNodeState). n.messages) h ∙ sym (append-nil node.messages))
   message_leads file msg is packet header false h =
       let g = h.0 in
       (map (filed g.state.switched) g.sends, (g, h.1, not_skipped S node.state file msg g h.1 is, ap (λ (n : GrownNodeState). n.state) h.2, refl), ap (λ (n : GrownNodeState). n.messages) h.2)
 
-  judged_leads : (packet : Packet) (j : GrownJudged) → grown_judged S node.state.switched packet.bytes ≡ j → TakesJudged S node packet j next → Leads S node next (judged_brings j)
+  judged_leads : (packet : Packet) (j : GrownJudged) → grown_judged S node.state.switched packet.bytes ≡ j → TakesGrownJudged S node packet j next → Leads S node next (grown_judged_brings j)
   judged_leads packet (Delivery header file msg) is h =
       message_leads file msg (delivered_file S node.state.switched packet.bytes header file msg is) packet header (is_stop msg) h
   judged_leads packet (Skipped skip) is h = ([], (ap (λ (n : GrownNodeState). n.state) h, refl), ap (λ (n : GrownNodeState). n.messages) h ∙ sym (append-nil node.messages))
 
-  event_leads : (event : NodeEvent) → AfterEvent S node event next → Leads S node next (event_brings S node.state.switched event)
+  event_leads : (event : NodeEvent) → AfterGrownEvent S node event next → Leads S node next (event_brings S node.state.switched event)
   event_leads (took packet) h = judged_leads packet (grown_judged S node.state.switched packet.bytes) refl h
   event_leads silent h =
       (map (filed node.state.switched) (grown_server_tick node.state), (ap (λ (n : GrownNodeState). n.state) h, refl), ap (λ (n : GrownNodeState). n.messages) h)

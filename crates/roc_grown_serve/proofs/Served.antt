@@ -21,7 +21,7 @@ use Rattle.roc_grown_node.specs.Setting.{GrownNodeSetting}
 use Rattle.roc_grown_serve.specs.declared.server_node.GrownServerNode.{GrownServerNode}
 use Rattle.roc_grown_serve.specs.declared.server_turns.RunEnd.TheVariants as run
 use Rattle.roc_grown_serve.specs.GrownRun.{GrownNodeState, first_grown_node}
-use Rattle.roc_grown_serve.specs.ServesGrowing.{RunsServer, ServesGrowing, unserved, cut_off, wanted, untold, done}
+use Rattle.roc_grown_serve.specs.ServesGrowing.{RunsGrownServer, ServesGrowing, unserved, cut_off, wanted, untold, done}
 use Rattle.roc_grown_serve.specs.Inner.GrownTurn.{IsReady, bare, node_of, RunsTurns, ClosesServe, are_over, are_wanted, are_cut_off}
 
 abbrev unwrap : Option Addr → Addr → Addr
@@ -53,8 +53,8 @@ module _ (S : GrownNodeSetting) (first : GrownNodeState) (shard : Shard) (own fo
   has_greeted : call.out.new ≡ greeted → HasGreeted shard call
   has_greeted same = subst (λ o. Adds call.out.old o (first_text shard)) (sym same) first_told
 
-  runs_behind : (last : List Reception) (events : List NodeEvent) (node : GrownNodeState) → RunsServer S first turns last events node mid call.link.new
-      → RunsServer S first turns last events node call.link.old call.link.new
+  runs_behind : (last : List Reception) (events : List NodeEvent) (node : GrownNodeState) → RunsGrownServer S first turns last events node mid call.link.new
+      → RunsGrownServer S first turns last events node call.link.old call.link.new
   runs_behind last events node r = record { run = r.run; few = r.few; moves = Moves-behind call.link.old mid call.link.new _ binds r.moves }
 
   abbrev Ends : ServeEnd → Type 0

@@ -12,8 +12,8 @@ use Rattle.roc_grown_serve.specs.declared.server_node.TurnOutput.{TurnOutput}
 use Rattle.roc_grown_serve.specs.declared.server_turns.TurnEnd.{TurnEnd}
 use Rattle.roc_grown_serve.specs.declared.server_turns.TurnEnd.TheVariants as turn
 use Rattle.roc_grown_serve.specs.declared.server_turns.RunEnd.TheVariants as run
-use Rattle.roc_grown_serve.specs.GrownRun.{GrownNodeState, AfterEvent, begun, goes_on}
-use Rattle.roc_grown_serve.specs.ServesGrowing.{RunsServer}
+use Rattle.roc_grown_serve.specs.GrownRun.{GrownNodeState, AfterGrownEvent, begun, goes_on}
+use Rattle.roc_grown_serve.specs.ServesGrowing.{RunsGrownServer}
 use Rattle.roc_grown_serve.specs.Inner.GrownTurn.{bare, node_of, GivesOut, Leads, TakesOne, TurnsOnce, TakesTurn, RanSo, RunsTurns, are_over, are_wanted, are_cut_off}
 use Rattle.roc_grown_serve.proofs.Servers.{continued, event_behind}
 
@@ -22,7 +22,7 @@ use Rattle.roc_grown_serve.proofs.Servers.{continued, event_behind}
 module _ (S : GrownNodeSetting) (before after : GrownServerNode) (a b : LinkView) where
   -- a datagram that came, whose bytes the buffer holds
   pub takes_packet : (output : TurnOutput) (from : Addr) (bytes taken : List ℕ) → bytes ≡ taken
-      → Leads (AfterEvent S (bare before) (took (record { address = from; bytes = bytes }))) after output
+      → Leads (AfterGrownEvent S (bare before) (took (record { address = from; bytes = bytes }))) after output
       → Moves a b (receiving (came (record { address = from; bytes = taken })) ∷ []) → TakesOne S before after a b (Ok output)
   takes_packet output from bytes taken same leads moves = record {
     last = came (record { address = from; bytes = bytes }) ∷ [];
@@ -32,7 +32,7 @@ module _ (S : GrownNodeSetting) (before after : GrownServerNode) (a b : LinkView
   }
 
   -- silence
-  pub takes_silence : (output : TurnOutput) → Leads (AfterEvent S (bare before) silent) after output → Moves a b (receiving none_came ∷ []) → TakesOne S before after a b (Ok output)
+  pub takes_silence : (output : TurnOutput) → Leads (AfterGrownEvent S (bare before) silent) after output → Moves a b (receiving none_came ∷ []) → TakesOne S before after a b (Ok output)
   takes_silence output leads moves = record { last = none_came ∷ []; one = omega arith; moves = moves; comes = record { event = silent; is = refl; leads = leads } }
 
   -- memory was wanting for what came
@@ -53,7 +53,7 @@ module _ (S : GrownNodeSetting) (before after : GrownServerNode) (a b c : LinkVi
     is = h.comes.is;
     messages = h.comes.leads.messages;
     traffic = map sending output.sends.items;
-    leads = subst (λ s. AfterEvent S (bare before) h.comes.event (node_of after h.comes.leads.messages (map sending output.sends.items) s)) stops h.comes.leads.is;
+    leads = subst (λ s. AfterGrownEvent S (bare before) h.comes.event (node_of after h.comes.leads.messages (map sending output.sends.items) s)) stops h.comes.leads.is;
     moves = Moves-trans a b c (receive_of h.comes.event ∷ []) (map sending output.sends.items) (subst (Moves a b) h.comes.is h.moves) m;
   }
 
@@ -97,7 +97,7 @@ module _ (S : GrownNodeSetting) (first : GrownNodeState) (before after : GrownSe
   abbrev there : GrownNodeState
   there = node_of before r.messages r.traffic false
 
-  runs_on : (last : List Reception) → length last ≤ 1 → Moves b c (map receiving last) → RunsServer S first turns last r.events there a c
+  runs_on : (last : List Reception) → length last ≤ 1 → Moves b c (map receiving last) → RunsGrownServer S first turns last r.events there a c
   runs_on last one moves = let counted = r.counted in record { run = r.run; few = omega arith; moves = Moves-trans a b c r.traffic (map receiving last) r.moves moves }
 
   pub ends_wanted : TakesTurn S before after b c turn.NoMemory → RunsTurns S first turns after a c run.NoMemory
@@ -105,7 +105,7 @@ module _ (S : GrownNodeSetting) (first : GrownNodeState) (before after : GrownSe
 
   pub ends_cut_off : TakesTurn S before after b c turn.LinkFault → RunsTurns S first turns after a c run.LinkFault
   ends_cut_off t = let counted = r.counted in
-      are_cut_off r.events there refl (omega arith) (subst (λ last. RunsServer S first turns last r.events there a c) t.turns.0 (runs_on t.last t.one t.turns.1))
+      are_cut_off r.events there refl (omega arith) (subst (λ last. RunsGrownServer S first turns last r.events there a c) t.turns.0 (runs_on t.last t.one t.turns.1))
 
   pub ends_stopped : TakesTurn S before after b c turn.Stopped → RunsTurns S first turns after a c (run.Over true)
   ends_stopped t =

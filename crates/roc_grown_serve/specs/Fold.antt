@@ -18,13 +18,13 @@ pub data Brought : Type 0 where
   ticked : Brought
 
 -- a stop is for the node
-abbrev pub judged_brings : GrownJudged → Option Brought
-judged_brings (Delivery header file msg) = if is_stop msg then None else Some (came file msg)
-judged_brings (Skipped skip) = None
+abbrev pub grown_judged_brings : GrownJudged → Option Brought
+grown_judged_brings (Delivery header file msg) = if is_stop msg then None else Some (came file msg)
+grown_judged_brings (Skipped skip) = None
 
 -- what an event brings to the core of a node that has switched or not, if anything
 abbrev pub event_brings : GrownNodeSetting → (switched : Bool) → NodeEvent → Option Brought
-event_brings S switched (took packet) = judged_brings (grown_judged S switched packet.bytes)
+event_brings S switched (took packet) = grown_judged_brings (grown_judged S switched packet.bytes)
 event_brings S switched silent = Some ticked
 
 -- a core does so with what comes to it: it skips nothing; a tick changes nothing; and where nothing comes nothing happens. These messages are sent, each of the

@@ -81,30 +81,30 @@ abbrev pub grown_heard : GrownNodeState → Header → Addr → GrownNodeState
 grown_heard node header from = record node { heard = heard_of node.heard header.from from }
 
 -- a delivery of a file: a stop is for the node, and any other message for its core, whose step it is
-abbrev pub TakesMessage : GrownNodeSetting → GrownNodeState → (stops : Bool) → File → Msg → GrownNodeState → Type 0
-TakesMessage S node true file msg next = next ≡ grown_stopped node
-TakesMessage S node false file msg next = (g : GrownStep) × GrownHandles S.plan (Some S.next) node.state file msg g × (next ≡ grown_took S node g)
+abbrev pub TakesGrownMessage : GrownNodeSetting → GrownNodeState → (stops : Bool) → File → Msg → GrownNodeState → Type 0
+TakesGrownMessage S node true file msg next = next ≡ grown_stopped node
+TakesGrownMessage S node false file msg next = (g : GrownStep) × GrownHandles S.plan (Some S.next) node.state file msg g × (next ≡ grown_took S node g)
 
 -- a datagram; one that is skipped is counted, and changes nothing else
-abbrev pub TakesJudged : GrownNodeSetting → GrownNodeState → Packet → GrownJudged → GrownNodeState → Type 0
-TakesJudged S node packet (Delivery header file msg) next = TakesMessage S (grown_heard node header packet.address) (is_stop msg) file msg next
-TakesJudged S node packet (Skipped skip) next = next ≡ grown_skipped node skip
+abbrev pub TakesGrownJudged : GrownNodeSetting → GrownNodeState → Packet → GrownJudged → GrownNodeState → Type 0
+TakesGrownJudged S node packet (Delivery header file msg) next = TakesGrownMessage S (grown_heard node header packet.address) (is_stop msg) file msg next
+TakesGrownJudged S node packet (Skipped skip) next = next ≡ grown_skipped node skip
 
 -- what comes of an event; silence is a tick
-abbrev pub AfterEvent : GrownNodeSetting → GrownNodeState → NodeEvent → GrownNodeState → Type 0
-AfterEvent S node (took packet) next = TakesJudged S node packet (grown_judged S node.state.switched packet.bytes) next
-AfterEvent S node silent next = next ≡ grown_sends S node.state.switched node (grown_server_tick node.state)
+abbrev pub AfterGrownEvent : GrownNodeSetting → GrownNodeState → NodeEvent → GrownNodeState → Type 0
+AfterGrownEvent S node (took packet) next = TakesGrownJudged S node packet (grown_judged S node.state.switched packet.bytes) next
+AfterGrownEvent S node silent next = next ≡ grown_sends S node.state.switched node (grown_server_tick node.state)
 
 -- a turn: one receive gives the event, and all that comes of it stands behind that receive
-abbrev pub AfterTurn : GrownNodeSetting → GrownNodeState → NodeEvent → GrownNodeState → Type 0
-AfterTurn S node event next = AfterEvent S (grown_received node event) event next
+abbrev pub AfterGrownTurn : GrownNodeSetting → GrownNodeState → NodeEvent → GrownNodeState → Type 0
+AfterGrownTurn S node event next = AfterGrownEvent S (grown_received node event) event next
 
 -- the turns of these events, one by one, lead from one node to another
 pub data IsGrownRunFrom (S : GrownNodeSetting) (first : GrownNodeState) : List NodeEvent → GrownNodeState → Type 0 where
   begun : IsGrownRunFrom S first [] first
   goes_on : {events : List NodeEvent} {node : GrownNodeState} (event : NodeEvent) (next : GrownNodeState)
-      → IsGrownRunFrom S first events node → node.stopped ≡ false → AfterTurn S node event next → IsGrownRunFrom S first (events ++ event ∷ []) next
+      → IsGrownRunFrom S first events node → node.stopped ≡ false → AfterGrownTurn S node event next → IsGrownRunFrom S first (events ++ event ∷ []) next
 
 -- the same from before any turn
-abbrev pub IsGrownRun : GrownNodeSetting → Shard → List NodeEvent → GrownNodeState → Type 0
-IsGrownRun S shard events node = IsGrownRunFrom S (first_grown_node S.plan shard) events node
+abbrev pub IsGrownServerRun : GrownNodeSetting → Shard → List NodeEvent → GrownNodeState → Type 0
+IsGrownServerRun S shard events node = IsGrownRunFrom S (first_grown_node S.plan shard) events node

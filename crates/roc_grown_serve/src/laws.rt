@@ -11,7 +11,7 @@ ghost use Rattle.roc_grown_node.specs.declared.judging.GrownJudged.TheVariants.{
 ghost use Rattle.roc_grown_node.specs.Judgement.{grown_judged};
 ghost use Rattle.roc_grown_node.specs.Setting.{GrownNodeSetting};
 ghost use Rattle.roc_grown_serve.specs.Fold.{IsCoreFold};
-ghost use Rattle.roc_grown_serve.specs.GrownRun.{GrownNodeState, IsGrownRun};
+ghost use Rattle.roc_grown_serve.specs.GrownRun.{GrownNodeState, IsGrownServerRun};
 
 /// A core skips no message that its node takes as a delivery: the tag has told the file.
 pub fn deliveries_are_not_skipped()
@@ -21,6 +21,6 @@ pub fn deliveries_are_not_skipped()
 
 /// Whatever datagrams and silences a node takes, its core's state and messages are the fold of the core's steps over what they bring.
 pub fn runs_are_folds()
-    ensures { (S : GrownNodeSetting) (shard : Shard) (events : List NodeEvent) (node : GrownNodeState) → IsGrownRun S shard events node
+    ensures { (S : GrownNodeSetting) (shard : Shard) (events : List NodeEvent) (node : GrownNodeState) → IsGrownServerRun S shard events node
         → IsCoreFold S (first_grown_server S.plan shard) events node.state node.messages }
 {}

@@ -6,7 +6,7 @@ ghost use Rattle.roc_node_serve.specs.ServerRun.{is_stop};
 ghost use Rattle.roc_wire.specs.Fits.{FitsHeader};
 ghost use Rattle.roc_grown_node.specs.Posting.{grown_packets_for};
 ghost use Rattle.roc_grown_node.specs.Setting.{grown_setting_of};
-ghost use Rattle.roc_grown_serve.specs.GrownRun.{TakesMessage, AfterEvent, with_grown_answer};
+ghost use Rattle.roc_grown_serve.specs.GrownRun.{TakesGrownMessage, AfterGrownEvent, with_grown_answer};
 ghost use Rattle.roc_grown_serve.specs.Inner.GrownTurn.{bare, IsReady, Leads};
 
 use roc_base::NoMemory;
@@ -85,7 +85,7 @@ fn take_step(
     requires header { FitsHeader setting.header.now }
     requires cluster { length setting.cluster.now ≡ setting.plan.now.program.shards }
     requires empty { outbox.old.messages ≡ [] }
-    ensures leads { IfOk result (Leads (TakesMessage (grown_setting_of setting.entry) (bare server_node.old) false file msg.now) server_node.new) }
+    ensures leads { IfOk result (Leads (TakesGrownMessage (grown_setting_of setting.entry) (bare server_node.old) false file msg.now) server_node.new) }
     ensures ready { IsReady (grown_setting_of setting.entry) server_node.new }
 {
     let answer = match server_node
@@ -122,7 +122,7 @@ fn take_for_core(
     requires ready { IsReady (grown_setting_of setting) server_node.old }
     requires header { FitsHeader setting.header.now }
     requires cluster { length setting.cluster.now ≡ setting.plan.now.program.shards }
-    ensures leads { IfOk result (Leads (TakesMessage (grown_setting_of setting.entry) (bare server_node.old) false file msg.now) server_node.new) }
+    ensures leads { IfOk result (Leads (TakesGrownMessage (grown_setting_of setting.entry) (bare server_node.old) false file msg.now) server_node.new) }
     ensures ready { IsReady (grown_setting_of setting.entry) server_node.new }
 {
     let mut outbox = Outbox::new(alloc);
@@ -153,7 +153,7 @@ fn take_message(
     requires ready { IsReady (grown_setting_of setting) server_node.old }
     requires header { FitsHeader setting.header.now }
     requires cluster { length setting.cluster.now ≡ setting.plan.now.program.shards }
-    ensures leads { IfOk result (Leads (TakesMessage (grown_setting_of setting.entry) (bare server_node.old) (is_stop msg) file msg) server_node.new) }
+    ensures leads { IfOk result (Leads (TakesGrownMessage (grown_setting_of setting.entry) (bare server_node.old) (is_stop msg) file msg) server_node.new) }
     ensures ready { IsReady (grown_setting_of setting.entry) server_node.new }
 {
     if is_stop(&msg) {
@@ -173,7 +173,7 @@ pub fn take_datagram(
     requires ready { IsReady (grown_setting_of setting) server_node.old }
     requires header { FitsHeader setting.header.now }
     requires cluster { length setting.cluster.now ≡ setting.plan.now.program.shards }
-    ensures leads { IfOk result (Leads (AfterEvent (grown_setting_of setting.entry) (bare server_node.old)
+    ensures leads { IfOk result (Leads (AfterGrownEvent (grown_setting_of setting.entry) (bare server_node.old)
         (took (record { address = from; bytes = bytes.now }))) server_node.new) }
     ensures ready { IsReady (grown_setting_of setting.entry) server_node.new }
 {
@@ -203,7 +203,7 @@ fn take_tick(
     requires header { FitsHeader setting.header.now }
     requires cluster { length setting.cluster.now ≡ setting.plan.now.program.shards }
     requires empty { outbox.old.messages ≡ [] }
-    ensures leads { IfOk result (Leads (AfterEvent (grown_setting_of setting.entry) (bare server_node.old) silent) server_node.new) }
+    ensures leads { IfOk result (Leads (AfterGrownEvent (grown_setting_of setting.entry) (bare server_node.old) silent) server_node.new) }
     ensures same { server_node.new ≡ server_node.old }
 {
     match server_node.server.tick(outbox) {
@@ -228,7 +228,7 @@ pub fn take_silence(
 ) -> Result<TurnOutput, NoMemory>
     requires header { FitsHeader setting.header.now }
     requires cluster { length setting.cluster.now ≡ setting.plan.now.program.shards }
-    ensures leads { IfOk result (Leads (AfterEvent (grown_setting_of setting.entry) (bare server_node.old) silent) server_node.new) }
+    ensures leads { IfOk result (Leads (AfterGrownEvent (grown_setting_of setting.entry) (bare server_node.old) silent) server_node.new) }
     ensures same { server_node.new ≡ server_node.old }
 {
     let mut outbox = Outbox::new(alloc);

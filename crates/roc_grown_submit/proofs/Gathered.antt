@@ -14,7 +14,7 @@ use Rattle.roc_grown.specs.declared.handled.GrownFault.{GrownFault}
 use Rattle.roc_grown.specs.declared.handled.GrownFault.TheVariants.{Draining}
 use Rattle.roc_grown_node.specs.Posting.{grown_packets_for}
 use Rattle.roc_grown_node.specs.Setting.{GrownNodeSetting}
-use Rattle.roc_grown_submit.specs.GrownCoordRun.{GrownSubmissions, plan_of, with_drain, drained_first, grown_submit_lines, grown_accepts, grown_accepts_call, grown_submitted}
+use Rattle.roc_grown_submit.specs.GrownCoordRun.{GrownSubmissions, plan_of_file, with_drain, drained_first, grown_submit_lines, grown_accepts, grown_accepts_call, grown_submitted}
 use Rattle.roc_grown_submit.specs.GrownCoordRun.{grown_submitted_call, grown_submitted_all}
 use Rattle.roc_grown_submit.specs.GrownCoordRun.{submitted_first, submitted_later, of_later}
 use Rattle.roc_grown_submit.specs.GrownEnd.{naming}
@@ -62,11 +62,11 @@ both_none a b p q = ap (λ x. x && b) (sym p) ∙ sym q
 
 -- ---- one request
 
-named_so : (S : GrownNodeSetting) (s : GrownCoordState) (request : Request) (own : Plan) (name : List ℕ) (o : Option ℕ) → own ≡ plan_of S s → name ≡ request.name → o ≡ procedure_named own.program name
-    → procedure_named (plan_of S s).program request.name ≡ o
+named_so : (S : GrownNodeSetting) (s : GrownCoordState) (request : Request) (own : Plan) (name : List ℕ) (o : Option ℕ) → own ≡ plan_of_file S s → name ≡ request.name → o ≡ procedure_named own.program name
+    → procedure_named (plan_of_file S s).program request.name ≡ o
 named_so S s request own name o is same named = ap (λ (p : Plan). procedure_named p.program request.name) (sym is) ∙ ap (procedure_named own.program) (sym same) ∙ sym named
 
-pub refuses_nameless : (S : GrownNodeSetting) (request : Request) (s : GrownCoordState) (g : Gathered) (own : Plan) (name : List ℕ) → own ≡ plan_of S s → name ≡ request.name → None ≡ procedure_named own.program name
+pub refuses_nameless : (S : GrownNodeSetting) (request : Request) (s : GrownCoordState) (g : Gathered) (own : Plan) (name : List ℕ) → own ≡ plan_of_file S s → name ≡ request.name → None ≡ procedure_named own.program name
     → RefusesOne S request s s g g
 refuses_nameless S request s g own name is same named = record {
   refused = ap (grown_accepts_call S s request.args) (named_so S s request own name None is same named);
@@ -75,7 +75,7 @@ refuses_nameless S request s g own name is same named = record {
 }
 
 pub submits_call : (S : GrownNodeSetting) (request : Request) (proc : ℕ) (id : TxnId) (old new : GrownCoordState) (out_old out_new : Collected) (text_old text_new : List ℕ) (own : Plan) (name : List ℕ) (args : List ℤ)
-    → own ≡ plan_of S old → name ≡ request.name → Some proc ≡ procedure_named own.program name
+    → own ≡ plan_of_file S old → name ≡ request.name → Some proc ≡ procedure_named own.program name
     → args ≡ request.args → IsGrownSubmission (after_grown_submit S.plan (Some S.next) old proc args) (Ok id) new out_old out_new → text_new ≡ text_old ++ line_text (naming S) (Submit id proc request.args)
     → SubmitsAccepted S request old new (gathered out_old.messages text_old) (gathered out_new.messages text_new)
 submits_call S request proc id old new out_old out_new text_old text_new own name args is same named given step text =
@@ -110,14 +110,14 @@ refused_stays : (S : GrownNodeSetting) (s : GrownCoordState) (proc : ℕ) (args 
 refused_stays S s proc args fault e = go s.draining e
   where
     either : Bool → GrownSubmission
-    either d = if d then record { answer = Err Draining; state = s; sends = [] } else submitted_to_core s (after_submit (plan_of S s) s.core proc args)
+    either d = if d then record { answer = Err Draining; state = s; sends = [] } else submitted_to_core s (after_submit (plan_of_file S s) s.core proc args)
 
     go : (d : Bool) → Err fault ≡ (either d).answer → ((either d).state ≡ s) × ((either d).sends ≡ [])
     go true e = (refl, refl)
-    go false e = core_stays (plan_of S s) s proc args fault (refusal_of (plan_of S s) s.core proc args) e
+    go false e = core_stays (plan_of_file S s) s proc args fault (refusal_of (plan_of_file S s) s.core proc args) e
 
 refuses_call : (S : GrownNodeSetting) (request : Request) (proc : ℕ) (fault : GrownFault) (old new : GrownCoordState) (out_old out_new : Collected) (text : List ℕ) (own : Plan) (name : List ℕ) (args : List ℤ)
-    → own ≡ plan_of S old → name ≡ request.name → Some proc ≡ procedure_named own.program name
+    → own ≡ plan_of_file S old → name ≡ request.name → Some proc ≡ procedure_named own.program name
     → args ≡ request.args → IsGrownSubmission (after_grown_submit S.plan (Some S.next) old proc args) (Err fault) new out_old out_new
     → RefusesOne S request old new (gathered out_old.messages text) (gathered out_new.messages text)
 refuses_call S request proc fault old new out_old out_new text own name args is same named given step =
@@ -131,7 +131,7 @@ refuses_call S request proc fault old new out_old out_new text own name args is 
 
 -- what a fault means, where it promises the step unless memory is wanting
 pub refuses : {E : Type 0} (r : Result Bool E) (S : GrownNodeSetting) (request : Request) (proc : ℕ) (fault : GrownFault) (old new : GrownCoordState) (out_old out_new : Collected) (text : List ℕ) (own : Plan) (name : List ℕ) (args : List ℤ)
-    → own ≡ plan_of S old → name ≡ request.name → Some proc ≡ procedure_named own.program name
+    → own ≡ plan_of_file S old → name ≡ request.name → Some proc ≡ procedure_named own.program name
     → args ≡ request.args → IfOk r (λ accepted. accepted ≡ false) → OnOk r (wants_memory (Err fault) ≡ false)
     → (wants_memory (Err fault) ≡ false → IsGrownSubmission (after_grown_submit S.plan (Some S.next) old proc args) (Err fault) new out_old out_new)
     → IfOk r (λ accepted. SubmitsOne accepted S request old new (gathered out_old.messages text) (gathered out_new.messages text))

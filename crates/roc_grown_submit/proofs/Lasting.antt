@@ -48,7 +48,7 @@ use Rattle.roc_grown_node.specs.declared.judging.GrownJudged.TheVariants.{Delive
 use Rattle.roc_grown_node.specs.Judgement.{grown_judged}
 use Rattle.roc_node.specs.NodeEvent.{NodeEvent, took, silent}
 use Rattle.roc_node_submit.specs.EachAnswered.{is_answer, is_answer_to}
-use Rattle.roc_grown_submit.specs.GrownCoordRun.{plan_of, grown_step_of_judged, grown_step_of_event, grown_reply_lines, grown_answered_then}
+use Rattle.roc_grown_submit.specs.GrownCoordRun.{plan_of_file, grown_step_of_judged, grown_step_of_event, grown_reply_lines, grown_answered_then}
 use Rattle.roc_grown_submit.proofs.Counts.{waiting, waits, ids_with}
 use Rattle.roc_grown_submit.proofs.Keeping.{Kept, kept_same, kept_replied, kept_read}
 
@@ -266,8 +266,8 @@ module _ (S : GrownNodeSetting) (program : Workload) (number : ℕ) (taken : Lis
   lasts_filed : (file : File) (msg : Msg) → LastsGrown (grown.after_filed S.plan (Some S.next) s file msg)
   lasts_filed file msg = go (is_file (own_file s.switched) file)
     where
-      go : (b : Bool) → LastsGrown (cond b (grown.of_core S.plan s (after_message (plan_of S s) s.core msg)) (grown.unchanged s seen.Skipped))
-      go true = lasts_core S.plan program number taken s lines answered k (plan_of S s) msg
+      go : (b : Bool) → LastsGrown (cond b (grown.of_core S.plan s (after_message (plan_of_file S s) s.core msg)) (grown.unchanged s seen.Skipped))
+      go true = lasts_core S.plan program number taken s lines answered k (plan_of_file S s) msg
       go false = still_so
 
   lasts_message : (file : File) (msg : Msg) → LastsGrown (grown.after_grown_message S.plan (Some S.next) s file msg)

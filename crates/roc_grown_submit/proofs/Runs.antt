@@ -27,7 +27,7 @@ use Rattle.roc_grown.specs.declared.handled.GrownFault.TheVariants.{Draining}
 use Rattle.roc_grown_node.specs.Setting.{GrownNodeSetting}
 use Rattle.roc_node.specs.NodeEvent.{NodeEvent}
 use Rattle.roc_node_submit.specs.EachAnswered.{is_submission, is_answer_to, AreGivenIds, AreEachAnswered, none_given}
-use Rattle.roc_grown_submit.specs.GrownCoordRun.{GrownCoordNodeState, GrownSubmissions, as_plain, are_all_answered, none_submitted, drained_first, with_drain, is_first_answered, plan_of}
+use Rattle.roc_grown_submit.specs.GrownCoordRun.{GrownCoordNodeState, GrownSubmissions, as_plain, are_all_answered, none_grown_submitted, drained_first, with_drain, is_first_answered, plan_of_file}
 use Rattle.roc_grown_submit.specs.GrownCoordRun.{with_grown_submission, grown_accepts, grown_accepts_call, grown_submitted, grown_submitted_call, grown_submitted_all, submitted_first}
 use Rattle.roc_grown_submit.specs.GrownCoordRun.{submitted_later, of_later}
 use Rattle.roc_grown_submit.specs.GrownCoordRun.{grown_submissions_of, grown_submitted_node, grown_coord_turn, IsGrownCoordRun, begun, goes_on}
@@ -89,13 +89,13 @@ module _ (S : GrownNodeSetting) (number : ℕ) (names : NamesAlike S.plan.progra
   own_names true name proc e = e
   own_names false name proc e = names name proc e
 
-  lasts_request : (taken : List Request) (s : GrownSubmissions) (request : Request) → LastsBehind taken s → (proc : Option ℕ) → procedure_named (plan_of S s.state).program request.name ≡ proc
+  lasts_request : (taken : List Request) (s : GrownSubmissions) (request : Request) → LastsBehind taken s → (proc : Option ℕ) → procedure_named (plan_of_file S s.state).program request.name ≡ proc
       → grown_accepts_call S s.state request.args proc ≡ true → LastsBehind (taken ++ request ∷ []) (grown_submitted_call S s request.args proc)
   lasts_request taken s request k None named e = absurd (false≢true e)
   lasts_request taken s request k (Some proc) named e = go s.state.draining refl e
     where
       own : Plan
-      own = plan_of S s.state
+      own = plan_of_file S s.state
 
       c : CoordState
       c = s.state.core
@@ -142,8 +142,8 @@ module _ (S : GrownNodeSetting) (number : ℕ) (names : NamesAlike S.plan.progra
   lasts_all [] taken s k = record { more = []; parts = refl; same = refl; lasts = subst (λ l. LastsBehind l s) (sym (append-nil taken)) k }
   lasts_all (request ∷ rest) taken s k =
       go (grown_accepts S s.state request)
-      (λ e. subst (λ l. LastsMore (taken ++ request ∷ []) rest l (grown_submitted_all S (grown_submitted S s request) rest)) (unmoved (procedure_named (plan_of S s.state).program request.name))
-      (lasts_all rest (taken ++ request ∷ []) (grown_submitted S s request) (lasts_request taken s request k (procedure_named (plan_of S s.state).program request.name) refl e))) refl
+      (λ e. subst (λ l. LastsMore (taken ++ request ∷ []) rest l (grown_submitted_all S (grown_submitted S s request) rest)) (unmoved (procedure_named (plan_of_file S s.state).program request.name))
+      (lasts_all rest (taken ++ request ∷ []) (grown_submitted S s request) (lasts_request taken s request k (procedure_named (plan_of_file S s.state).program request.name) refl e))) refl
     where
       unmoved : (o : Option ℕ) → (grown_submitted_call S s request.args o).later ≡ s.later
       unmoved None = refl
@@ -236,7 +236,7 @@ module _ (S : GrownNodeSetting) (number : ℕ) (names : NamesAlike S.plan.progra
   -- behind a drain and submissions
   lasts_submitted : (all : List Request) (node : GrownCoordNodeState) → LastsRun all node → LastsRun all (grown_submitted_node S node)
   lasts_submitted all node r =
-      let m = lasts_before S number names node.lines node.answered r.taken (none_submitted node)
+      let m = lasts_before S number names node.lines node.answered r.taken (none_grown_submitted node)
       (subst (λ l. Lasts S.plan (naming S) number r.taken node.state l node.answered) (sym (append-nil node.lines)) r.lasts) in
       let after = grown_submissions_of S node in
       record {

@@ -73,8 +73,8 @@ pub record GrownSubmissions : Type 0 where
   pub lines : List Line
 
 -- nothing came of any yet
-abbrev pub none_submitted : GrownCoordNodeState → GrownSubmissions
-none_submitted node = record { state = node.state; left = node.left; later = node.later; messages = []; lines = [] }
+abbrev pub none_grown_submitted : GrownCoordNodeState → GrownSubmissions
+none_grown_submitted node = record { state = node.state; left = node.left; later = node.later; messages = []; lines = [] }
 
 -- a drain
 
@@ -92,8 +92,8 @@ drained_first S s = if is_first_answered s then with_drain s (after_drain S.plan
 -- submissions
 
 -- the plan of the file that a coordinator runs
-abbrev pub plan_of : GrownNodeSetting → GrownCoordState → Plan
-plan_of S s = own_plan S.plan (Some S.next) s.switched
+abbrev pub plan_of_file : GrownNodeSetting → GrownCoordState → Plan
+plan_of_file S s = own_plan S.plan (Some S.next) s.switched
 
 abbrev pub grown_submit_lines : (proc : ℕ) → List ℤ → Result TxnId GrownFault → List Line
 grown_submit_lines proc args (Ok id) = Submit id proc args ∷ []
@@ -113,7 +113,7 @@ grown_submitted_call S s args (Some proc) = with_grown_submission s proc args (a
 
 -- a request names a procedure of the file that the coordinator runs
 abbrev pub grown_submitted : GrownNodeSetting → GrownSubmissions → Request → GrownSubmissions
-grown_submitted S s request = grown_submitted_call S s request.args (procedure_named (plan_of S s.state).program request.name)
+grown_submitted S s request = grown_submitted_call S s request.args (procedure_named (plan_of_file S s.state).program request.name)
 
 -- the coordinator accepts the call of the procedure that a request names, and gives it an id; a name of none it cannot accept
 abbrev pub grown_accepts_call : GrownNodeSetting → GrownCoordState → List ℤ → Option ℕ → Bool
@@ -121,7 +121,7 @@ grown_accepts_call S s args None = false
 grown_accepts_call S s args (Some proc) = is_ok (after_grown_submit S.plan (Some S.next) s proc args).answer
 
 abbrev pub grown_accepts : GrownNodeSetting → GrownCoordState → Request → Bool
-grown_accepts S s request = grown_accepts_call S s request.args (procedure_named (plan_of S s).program request.name)
+grown_accepts S s request = grown_accepts_call S s request.args (procedure_named (plan_of_file S s).program request.name)
 
 -- Requests, one after another, until the coordinator refuses one, as it does while sixteen are unanswered, and while it drains. That one is left, with
 -- all behind it: so none is passed over
@@ -144,7 +144,7 @@ submitted_later S s = if s.state.switched && length s.left == 0 then of_later (g
 
 -- what comes of all that a node does before a turn, in this order
 abbrev pub grown_submissions_of : GrownNodeSetting → GrownCoordNodeState → GrownSubmissions
-grown_submissions_of S node = submitted_later S (submitted_first S (drained_first S (none_submitted node)))
+grown_submissions_of S node = submitted_later S (submitted_first S (drained_first S (none_grown_submitted node)))
 
 -- all of it is sent as by a node that has switched as far as it had before
 abbrev pub with_grown_submissions : GrownNodeSetting → GrownCoordNodeState → GrownSubmissions → GrownCoordNodeState
@@ -198,12 +198,12 @@ with_grown_step S node r =
     }
 
 -- one receive gave an event
-abbrev pub grown_received : GrownCoordNodeState → NodeEvent → GrownCoordNodeState
-grown_received node event = record node { traffic = node.traffic ++ receive_of event ∷ [] }
+abbrev pub grown_coord_received : GrownCoordNodeState → NodeEvent → GrownCoordNodeState
+grown_coord_received node event = record node { traffic = node.traffic ++ receive_of event ∷ [] }
 
 -- a node, its submissions made, that takes an event: all that comes of it stands behind its receive
 abbrev pub grown_coord_took : GrownNodeSetting → GrownCoordNodeState → NodeEvent → GrownCoordNodeState
-grown_coord_took S node event = with_grown_step S (grown_received node event) (grown_step_of_event S node.state event)
+grown_coord_took S node event = with_grown_step S (grown_coord_received node event) (grown_step_of_event S node.state event)
 
 -- ---- runs
 

@@ -18,7 +18,7 @@ use Rattle.roc_node.specs.NodeEvent.{took}
 use Rattle.roc_node.specs.declared.judging.Skip.TheVariants.{Tag}
 use Rattle.roc_node_serve.specs.ServerRun.{is_stop}
 use Rattle.roc_grown_node.specs.Setting.{GrownNodeSetting, own_tag}
-use Rattle.roc_grown_node.specs.Judgement.{is_past, has_tag, is_delivered, where_delivered}
+use Rattle.roc_grown_node.specs.Judgement.{is_past, has_grown_tag, is_delivered, where_delivered}
 use Rattle.roc_grown_node.specs.Posting.{header_for}
 use Rattle.roc_grown_node.specs.declared.judging.GrownJudged.TheVariants.{Delivery, Skipped}
 use Rattle.roc_law_grown_nodes.specs.GrownInterleaved.{AllGrownSettings, grown_setting_at, WasSentAs, IsFiledSent, IsGrownJudgedSent, IsGrownCaused}

@@ -30,7 +30,7 @@ use Rattle.roc_grown_node.specs.Posting.{Filed, filed}
 use Rattle.roc_grown_node.specs.Judgement.{grown_judged}
 use Rattle.roc_grown_node.specs.declared.judging.GrownJudged.{GrownJudged}
 use Rattle.roc_grown_node.specs.declared.judging.GrownJudged.TheVariants.{Delivery, Skipped}
-use Rattle.roc_grown_serve.specs.GrownRun.{GrownNodeState, grown_heard, grown_received, TakesMessage, TakesJudged, AfterTurn}
+use Rattle.roc_grown_serve.specs.GrownRun.{GrownNodeState, grown_heard, grown_received, TakesGrownMessage, TakesGrownJudged, AfterGrownTurn}
 use Rattle.roc_grown_submit.specs.GrownCoordRun.{grown_step_of_judged, grown_step_of_event, grown_reply_lines, grown_coord_took}
 use Rattle.roc_views.proofs.Besides.{set_there}
 use Rattle.roc_law_nodes.proofs.NodeMoves.{map_set, map_get, line_in, lines_in}
@@ -99,7 +99,7 @@ module _ (N : AllGrownSettings) where
         (stands_as N.plan N.next r (sym (set_there (map state_of all.servers) shard.0 node.state state_there)) refl (sym (append-nil all.sent)) refl)
 
     message_served : (heard : GrownNodeState) (file : File) (msg : Msg) (next : GrownNodeState) → heard.state ≡ node.state → heard.messages ≡ node.messages → (b : Bool)
-        → IsFiledSent all.sent (Server shard) b file msg → TakesMessage (grown_setting_at N (Server shard)) heard b file msg next → Served next
+        → IsFiledSent all.sent (Server shard) b file msg → TakesGrownMessage (grown_setting_at N (Server shard)) heard b file msg next → Served next
     message_served heard file msg next state messages true was h =
         server_still next (ap (λ (n : GrownNodeState). n.state) h ∙ state) (ap (λ (n : GrownNodeState). n.messages) h ∙ messages)
     message_served heard file msg next state messages false was (g, handles, is) =
@@ -108,14 +108,14 @@ module _ (N : AllGrownSettings) where
         (server_delivers N.plan N.next r shard node.state state_there file msg g (subst (λ (s : GrownServerState). GrownHandles N.plan (Some N.next) s file msg g) state handles) was)
 
     judged_served : (packet : Packet) (j : GrownJudged) (heard next : GrownNodeState) → heard.state ≡ node.state → heard.messages ≡ node.messages
-        → IsGrownJudgedSent all.sent (Server shard) j → TakesJudged (grown_setting_at N (Server shard)) heard packet j next → Served next
+        → IsGrownJudgedSent all.sent (Server shard) j → TakesGrownJudged (grown_setting_at N (Server shard)) heard packet j next → Served next
     judged_served packet (Delivery header file msg) heard next state messages was h =
         message_served (grown_heard heard header packet.address) file msg next state messages (is_stop msg) was h
     judged_served packet (Skipped skip) heard next state messages was h =
         server_still next (ap (λ (n : GrownNodeState). n.state) h ∙ state) (ap (λ (n : GrownNodeState). n.messages) h ∙ messages)
 
     pub turn_served : (event : NodeEvent) (next : GrownNodeState) → IsGrownCaused (grown_setting_at N (Server shard)) node.state.switched all.sent (Server shard) event
-        → AfterTurn (grown_setting_at N (Server shard)) node event next → Served next
+        → AfterGrownTurn (grown_setting_at N (Server shard)) node event next → Served next
     turn_served (took packet) next was h =
         judged_served packet (grown_judged (grown_setting_at N (Server shard)) node.state.switched packet.bytes) (grown_received node (took packet)) next refl refl was h
     turn_served silent next was h =

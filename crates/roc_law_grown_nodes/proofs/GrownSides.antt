@@ -10,7 +10,7 @@ use Rattle.roc_protocol.proofs.Firsts.{found_at}
 use Rattle.roc_node.specs.NodeEvent.{NodeEvent}
 use Rattle.roc_grown_node.specs.Setting.{GrownNodeSetting}
 use Rattle.roc_grown_serve.specs.GrownRun as serve
-use Rattle.roc_grown_serve.specs.GrownRun.{GrownNodeState, first_grown_node, AfterTurn, IsGrownRun}
+use Rattle.roc_grown_serve.specs.GrownRun.{GrownNodeState, first_grown_node, AfterGrownTurn, IsGrownServerRun}
 use Rattle.roc_grown_submit.specs.GrownCoordRun as submit
 use Rattle.roc_grown_submit.specs.GrownCoordRun.{GrownCoordNodeState, first_grown_coord_node_state, are_all_answered, grown_submitted_node, grown_submissions_of, grown_coord_took}
 use Rattle.roc_grown_submit.specs.GrownCoordRun.{grown_step_of_event, grown_reply_lines, IsGrownCoordRun}
@@ -36,7 +36,7 @@ module _ (S : GrownNodeSetting) where
 module _ (N : AllGrownSettings) where
   -- a server's node has its own run
   abbrev ServerRan : List Move → Shard → GrownNodeState → Type 0
-  ServerRan moves shard node = IsGrownRun (grown_setting_at N (Server shard)) shard (events_at (Server shard) moves) node
+  ServerRan moves shard node = IsGrownServerRun (grown_setting_at N (Server shard)) shard (events_at (Server shard) moves) node
 
   abbrev ServersRan : List Move → AllGrownNodes → Type 0
   ServersRan moves all = (shard : Shard) (node : GrownNodeState) → slice_get all.servers shard.0 ≡ Some node → ServerRan moves shard node
@@ -54,7 +54,7 @@ module _ (N : AllGrownSettings) where
   server_rests : (moves : List Move) (move : Move) (shard : Shard) (node : GrownNodeState) → taken_in (Server shard) move ≡ None → ServerRan moves shard node
       → ServerRan (moves ++ move ∷ []) shard node
   server_rests moves move shard node none was =
-      subst (λ (l : List NodeEvent). IsGrownRun (grown_setting_at N (Server shard)) shard l node) (sym (takes_none (Server shard) moves move none)) was
+      subst (λ (l : List NodeEvent). IsGrownServerRun (grown_setting_at N (Server shard)) shard l node) (sym (takes_none (Server shard) moves move none)) was
 
   coord_rests : (moves : List Move) (move : Move) (told after : List (ℕ × Line)) (number : ℕ) (place : GrownCoordPlace) → taken_in (Coord number) move ≡ None
       → lines_by number after ≡ lines_by number told → CoordRan moves told number place → CoordRan (moves ++ move ∷ []) after number place
@@ -72,10 +72,10 @@ module _ (N : AllGrownSettings) where
     abbrev turned : List Move
     turned = moves ++ serves shard event ∷ []
 
-    serves_servers : ServersRan moves all → node.stopped ≡ false → AfterTurn (grown_setting_at N (Server shard)) node event next → ServersRan turned served
+    serves_servers : ServersRan moves all → node.stopped ≡ false → AfterGrownTurn (grown_setting_at N (Server shard)) node event next → ServersRan turned served
     serves_servers was goes after other n there = elim (get-set_cases all.servers shard.0 other.0 node next n at there) [
       | inl same ↦
-          (let ran : ServerRan turned shard next = subst (λ (l : List NodeEvent). IsGrownRun (grown_setting_at N (Server shard)) shard l next)
+          (let ran : ServerRan turned shard next = subst (λ (l : List NodeEvent). IsGrownServerRun (grown_setting_at N (Server shard)) shard l next)
           (sym (takes_one (Server shard) moves (serves shard event) event (here shard.0 event))) (serve.goes_on event next (was shard node at) goes after) in
           let one : shard ≡ other = ap to_shard same.0 in
           subst (λ (s : Shard). ServerRan turned s n) one (subst (λ (m : GrownNodeState). ServerRan turned shard m) (sym same.1) ran))

@@ -31,9 +31,9 @@ use Rattle.roc_grown.specs.Server.{GrownServerState}
 use Rattle.roc_grown.specs.Coord.{GrownCoordState, GrownSubmission, DrainStep, is_drained, telling, drained_sends, tell_if_drained, after_drain, answered_so, submitted_to_core, after_grown_submit}
 use Rattle.roc_growth.specs.Happens.{IsCallOf}
 use Rattle.roc_grown_node.specs.Setting.{GrownNodeSetting}
-use Rattle.roc_grown_submit.specs.GrownCoordRun.{GrownCoordNodeState, GrownSubmissions, none_submitted, with_drain, is_first_answered, drained_first, grown_submit_lines, grown_submitted_call}
+use Rattle.roc_grown_submit.specs.GrownCoordRun.{GrownCoordNodeState, GrownSubmissions, none_grown_submitted, with_drain, is_first_answered, drained_first, grown_submit_lines, grown_submitted_call}
 use Rattle.roc_grown_submit.specs.GrownCoordRun.{grown_submitted, grown_accepts_call, grown_accepts, grown_submitted_all, submitted_first, of_later, submitted_later, grown_submissions_of}
-use Rattle.roc_grown_submit.specs.GrownCoordRun.{grown_submitted_node, plan_of}
+use Rattle.roc_grown_submit.specs.GrownCoordRun.{grown_submitted_node, plan_of_file}
 use Rattle.roc_views.proofs.Besides.{set_there}
 use Rattle.roc_law_nodes.proofs.NodeMoves.{line_in}
 use Rattle.roc_law_nodes.proofs.SubmitMoves.{set_again}
@@ -166,7 +166,7 @@ module _ (N : AllGrownSettings) (grown : IsGrownFrom N.plan.program N.next.plan.
     where
       go : (b : Bool) → grown_accepts S s.state request ≡ b → (Stands (grown_submitted S s request) → Stands (grown_submitted_all S (grown_submitted S s request) rest))
           → Stands (if b then grown_submitted_all S (grown_submitted S s request) rest else record s { left = request ∷ rest })
-      go true e more = more (call_stands s request.args st (procedure_named (plan_of S s.state).program request.name) e)
+      go true e more = more (call_stands s request.args st (procedure_named (plan_of_file S s.state).program request.name) e)
       go false e more = st
 
   later_stands : (s : GrownSubmissions) → Stands s → Stands (submitted_later S s)
@@ -176,10 +176,10 @@ module _ (N : AllGrownSettings) (grown : IsGrownFrom N.plan.program N.next.plan.
       go true = all_stand s.later s st
       go false = st
 
-  pub before_stands : (node : GrownCoordNodeState) → Stands (none_submitted node) → Stands (grown_submissions_of S node)
+  pub before_stands : (node : GrownCoordNodeState) → Stands (none_grown_submitted node) → Stands (grown_submissions_of S node)
   before_stands node st =
-      let first = drained_first S (none_submitted node) in
-      later_stands (submitted_first S first) (all_stand first.left first (drained_stands (none_submitted node) st))
+      let first = drained_first S (none_grown_submitted node) in
+      later_stands (submitted_first S first) (all_stand first.left first (drained_stands (none_grown_submitted node) st))
 
 module _ (N : AllGrownSettings) (grown : IsGrownFrom N.plan.program N.next.plan.program) (all : AllGrownNodes) (r : Mirrors N all) (number : ℕ) (node : GrownCoordNodeState)
     (at : slice_get all.coords number ≡ Some (between node)) where

@@ -22,7 +22,7 @@ use Rattle.roc_grown_node.specs.Judgement.{grown_judged}
 use Rattle.roc_grown_node.specs.Posting.{Filed}
 use Rattle.roc_grown_node.specs.declared.judging.GrownJudged.{GrownJudged}
 use Rattle.roc_grown_node.specs.declared.judging.GrownJudged.TheVariants.{Delivery, Skipped}
-use Rattle.roc_grown_serve.specs.GrownRun.{GrownNodeState, first_grown_node, AfterTurn}
+use Rattle.roc_grown_serve.specs.GrownRun.{GrownNodeState, first_grown_node, AfterGrownTurn}
 use Rattle.roc_grown_submit.specs.GrownCoordRun.{GrownCoordNodeState, first_grown_coord_node_state, are_all_answered, grown_submitted_node, grown_coord_took, IsGrownCoordRun}
 use Rattle.roc_law_nodes.specs.Interleaved.{Move, serves, submits, takes, gained}
 
@@ -126,7 +126,7 @@ pub data AreGrownInterleaved (N : AllGrownSettings) : List Move → AllGrownNode
   none_moved : AreGrownInterleaved N [] (first_grown_nodes N)
   server_moves : {moves : List Move} {all : AllGrownNodes} (shard : Shard) (node next : GrownNodeState) (event : NodeEvent)
       → AreGrownInterleaved N moves all → slice_get all.servers shard.0 ≡ Some node → node.stopped ≡ false
-      → IsGrownCaused (grown_setting_at N (Server shard)) node.state.switched all.sent (Server shard) event → AfterTurn (grown_setting_at N (Server shard)) node event next
+      → IsGrownCaused (grown_setting_at N (Server shard)) node.state.switched all.sent (Server shard) event → AfterGrownTurn (grown_setting_at N (Server shard)) node event next
       → AreGrownInterleaved N (moves ++ serves shard event ∷ []) (grown_server_moved all shard node next)
   coord_submits : {moves : List Move} {all : AllGrownNodes} (number : ℕ) (node : GrownCoordNodeState)
       → AreGrownInterleaved N moves all → slice_get all.coords number ≡ Some (between node)

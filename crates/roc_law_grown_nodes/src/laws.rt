@@ -21,7 +21,7 @@ ghost use Rattle.roc_replay.specs.Readback.{history_in};
 ghost use Rattle.roc_wire.specs.Laws.{Spells};
 ghost use Rattle.roc_node.specs.NodeEvent.{took};
 ghost use Rattle.roc_grown_node.specs.Posting.{header_for};
-ghost use Rattle.roc_grown_serve.specs.GrownRun.{GrownNodeState, IsGrownRun};
+ghost use Rattle.roc_grown_serve.specs.GrownRun.{GrownNodeState, IsGrownServerRun};
 ghost use Rattle.roc_law_nodes.specs.Interleaved.{Move, events_at, lines_by};
 ghost use Rattle.roc_law_grown_nodes.specs.GrownInterleaved.{AllGrownSettings, AllGrownNodes, GrownCoordPlace, AreGrownInterleaved, WasSentAs, IsGrownCaused, IsGrownCoordAt, grown_setting_at};
 ghost use Rattle.roc_law_grown_nodes.specs.GrownInterleaved.{grown_node_at};
@@ -34,7 +34,7 @@ use roc_wire::laws::spelled_is_read;
 pub fn interleaved_grown_runs_are_runs()
     ensures servers { (N : AllGrownSettings) (moves : List Move) (all : AllGrownNodes) → AreGrownInterleaved N moves all
         → (shard : Shard) (n : GrownNodeState) → slice_get all.servers shard.0 ≡ Some n
-        → IsGrownRun (grown_setting_at N (node.Server shard)) shard (events_at (node.Server shard) moves) n }
+        → IsGrownServerRun (grown_setting_at N (node.Server shard)) shard (events_at (node.Server shard) moves) n }
     ensures coords { (N : AllGrownSettings) (moves : List Move) (all : AllGrownNodes) → AreGrownInterleaved N moves all
         → (number : ℕ) (place : GrownCoordPlace) → slice_get all.coords number ≡ Some place
         → IsGrownCoordAt (grown_setting_at N (node.Coord number)) number (N.requests number) (N.later number) (events_at (node.Coord number) moves) place

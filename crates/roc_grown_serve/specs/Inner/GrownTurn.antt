@@ -16,8 +16,8 @@ use Rattle.roc_grown_serve.specs.declared.server_turns.TurnEnd.{TurnEnd}
 use Rattle.roc_grown_serve.specs.declared.server_turns.TurnEnd.TheVariants.{Goes, Stopped, NoMemory, LinkFault}
 use Rattle.roc_grown_serve.specs.declared.server_turns.RunEnd.{RunEnd}
 use Rattle.roc_grown_serve.specs.declared.server_turns.RunEnd.TheVariants as run
-use Rattle.roc_grown_serve.specs.GrownRun.{GrownNodeState, AfterEvent, IsGrownRunFrom}
-use Rattle.roc_grown_serve.specs.ServesGrowing.{AreTurnsOver, RunsServer}
+use Rattle.roc_grown_serve.specs.GrownRun.{GrownNodeState, AfterGrownEvent, IsGrownRunFrom}
+use Rattle.roc_grown_serve.specs.ServesGrowing.{AreGrownServerTurnsOver, RunsGrownServer}
 
 -- what the node's server keeps is of the plan that it runs
 abbrev pub IsReady : GrownNodeSetting → GrownServerNode → Type 0
@@ -59,7 +59,7 @@ event_failed (Err end) = turn_failed end
 pub record TakesEvent (S : GrownNodeSetting) (last : List Reception) (old new : GrownServerNode) (output : TurnOutput) : Type 0 where
   pub event : NodeEvent
   pub is : map receiving last ≡ receive_of event ∷ []
-  pub leads : Leads (AfterEvent S (bare old) event) new output
+  pub leads : Leads (AfterGrownEvent S (bare old) event) new output
 
 -- what came of what a receive gave
 abbrev pub ComesOfReceive : GrownNodeSetting → List Reception → (old new : GrownServerNode) → Result TurnOutput TurnEnd → Type 0
@@ -91,7 +91,7 @@ pub record TurnsOnce (S : GrownNodeSetting) (stopped : Bool) (last : List Recept
   pub is : map receiving last ≡ receive_of event ∷ []
   pub messages : List Filed
   pub traffic : List LinkEvent
-  pub leads : AfterEvent S (bare old) event (node_of new messages traffic stopped)
+  pub leads : AfterGrownEvent S (bare old) event (node_of new messages traffic stopped)
   pub moves : Moves link_old link_new (receive_of event ∷ traffic)
 
 abbrev pub Turns : GrownNodeSetting → TurnEnd → List Reception → (old new : GrownServerNode) → LinkView → LinkView → Type 0
@@ -123,12 +123,12 @@ run_failed run.NoMemory = false
 
 -- how the turns of a server ended
 pub data RunsTurns (S : GrownNodeSetting) (first : GrownNodeState) (turns : ℕ) (counted : GrownServerNode) (link_old link_new : LinkView) : RunEnd → Type 0 where
-  are_over : (stopped : Bool) (messages : List Filed) (traffic : List LinkEvent) (events : List NodeEvent) → AreTurnsOver turns events (node_of counted messages traffic stopped)
-      → RunsServer S first turns [] events (node_of counted messages traffic stopped) link_old link_new
+  are_over : (stopped : Bool) (messages : List Filed) (traffic : List LinkEvent) (events : List NodeEvent) → AreGrownServerTurnsOver turns events (node_of counted messages traffic stopped)
+      → RunsGrownServer S first turns [] events (node_of counted messages traffic stopped) link_old link_new
       → RunsTurns S first turns counted link_old link_new (run.Over stopped)
-  are_wanted : (events : List NodeEvent) (node : GrownNodeState) (last : List Reception) → length last ≤ 1 → RunsServer S first turns last events node link_old link_new
+  are_wanted : (events : List NodeEvent) (node : GrownNodeState) (last : List Reception) → length last ≤ 1 → RunsGrownServer S first turns last events node link_old link_new
       → RunsTurns S first turns counted link_old link_new run.NoMemory
-  are_cut_off : (events : List NodeEvent) (node : GrownNodeState) → node.stopped ≡ false → length events < turns → RunsServer S first turns (vain ∷ []) events node link_old link_new
+  are_cut_off : (events : List NodeEvent) (node : GrownNodeState) → node.stopped ≡ false → length events < turns → RunsGrownServer S first turns (vain ∷ []) events node link_old link_new
       → RunsTurns S first turns counted link_old link_new run.LinkFault
 
 -- ---- the last lines
