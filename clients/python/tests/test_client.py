@@ -182,7 +182,11 @@ class Commands(unittest.TestCase):
             absent = servers.file("absent.toml", cluster_text([servers.ports[0], *free_ports(2)]))
             state = f"{servers.folder}/state"
             words = module("call", servers.workload, absent, "--coord", "2", "--state", state, "--timeout", "60")
-            run = subprocess.Popen(words, stdin=subprocess.PIPE, stdout=subprocess.PIPE, stderr=subprocess.PIPE, text=True, env=environment())
+            # Whoever runs the tests in the background may have it ignore interrupts, and a child would go on doing so.
+            run = subprocess.Popen(
+                words, stdin=subprocess.PIPE, stdout=subprocess.PIPE, stderr=subprocess.PIPE, text=True, env=environment(),
+                preexec_fn=lambda: signal.signal(signal.SIGINT, signal.SIG_DFL),
+            )
             assert run.stdin
             run.stdin.write("pay 0 1 30\n")
             run.stdin.flush()
