@@ -1,0 +1,9 @@
+pub mod Numbers
+mod WordBits
+mod RowWords
+mod Searches
+pub mod Chains
+mod Put
+pub mod Fronts
+mod TakenIn
+pub mod LeastOf

@@ -1,0 +1,14 @@
+-- The least of many transactions by id
+use Rattle.std.specs.Prelude.{◌≡◌, ℕ, List, take}
+use Rattle.roc_base.specs.declared.id.TxnId.{TxnId}
+use Rattle.roc_depgraph.specs.Closure.{IsRisingListOf}
+
+-- how many are the least
+abbrev pub most_least_ids : ℕ
+most_least_ids = 16
+
+-- the first of all of which P holds, by id rising
+pub record AreLeastIds (P : TxnId → Type 0) (ids : List TxnId) : Type 0 where
+  pub all : List TxnId
+  pub rising : IsRisingListOf P all
+  pub first : ids ≡ take most_least_ids all

@@ -1,0 +1,4 @@
+pub mod Bits
+pub mod Least
+-- What stands here is of private functions alone
+pub mod Inner

@@ -1,0 +1,123 @@
+-- Lists of transactions that are not decided are taken back
+use Rattle.std.proofs.Common.{◌≡◌, ◌≢◌, ◌<◌, ◌+◌, ◌||◌, ℕ, Bool, true, false, cond, not, List, [], ◌∷◌, ◌++◌, length, take, get_or, filter, Option, Some, None}
+use Rattle.std.proofs.Common.{is_some, refl, sym, ap, ◌∙◌, subst, arith}
+use Rattle.std.proofs.lemmas.Bool.{false≢true}
+use Rattle.std.specs.Map.{lookup}
+use Rattle.roc_sequence.specs.Lists.{Has}
+use Rattle.roc_sequence.specs.Places.{is_listed}
+use Rattle.roc_sequence.proofs.Fronts.{front_more}
+use Rattle.roc_base.specs.declared.id.TxnId.{TxnId}
+use Rattle.roc_base.specs.TxnId.{is_txn}
+use Rattle.roc_base.proofs.Ids.{is_txn-swap}
+use Rattle.roc_depgraph.specs.declared.known.KnownList.{KnownList}
+use Rattle.roc_depgraph.specs.Deps.{list_of, is_known}
+use Rattle.roc_server_table.specs.declared.rows.Row.{Row}
+use Rattle.roc_server_table.specs.declared.rows.Parts.{Parts}
+use Rattle.roc_server_table.specs.declared.marks.Mark.{Mark}
+use Rattle.roc_server_table.specs.Inner.Changes.{all_untold, untold, KeptLists}
+use Rattle.roc_server_table.specs.Inner.Rows.{is_told, IsWhole}
+use Rattle.roc_server_table.specs.Inner.Marks.{mark_at, AreMarked, IsTakenBack, WakesAll}
+use Rattle.roc_server_table.specs.Inner.Kept.{decided_of, IsKept}
+use Rattle.roc_server_table.proofs.AllEnded.{filter_both}
+use Rattle.roc_server_table.proofs.ExceptedMarks.{marks_awake}
+use Rattle.roc_server_table.proofs.DecidedIds.{decided_at, decided_within, decided_same}
+
+-- ---- no row waits
+
+module _ (p : Parts) (marks new : List Mark) (k : IsKept p marks) (w : WakesAll marks new) where
+  pub awake_kept : IsKept p new
+  awake_kept = record { whole = k.whole; marked = marks_awake p.rows.items marks new k.marked w; each = w.each ∙ k.each }
+
+  pub awake_decided : decided_of p.rows.items new ≡ decided_of p.rows.items marks
+  awake_decided =
+      let within = decided_within p.numbers.entries p.rows.items p.stamp k.whole marks k.marked in
+      decided_same p.rows.items p.rows.items marks new w.same (λ n d. (refl, within n d, within n d))
+
+-- ---- one list is taken back
+
+module _ (p q : Parts) (marks : List Mark) (k : IsKept p marks) (awake : (n : ℕ) → (mark_at marks n).waits.birth ≡ 0) (id : TxnId) (n : ℕ) (here : lookup (is_txn id) p.numbers.entries ≡ Some n)
+    (undecided : is_listed is_txn (decided_of p.rows.items marks) id ≡ false) (whole : IsWhole q) (b : IsTakenBack n p.rows.items q.rows.items) (each : length q.rows.items ≡ length p.rows.items) where
+  abbrev old : List Row
+  old = p.rows.items
+
+  abbrev new : List Row
+  new = q.rows.items
+
+  apart : (m : ℕ) → (mark_at marks m).decided ≡ true → m ≢ n
+  apart m d e =
+      let own : (mark_at marks n).decided ≡ false = sym (decided_at p.numbers.entries old p.stamp k.whole marks k.marked id n here) ∙ undecided in
+      false≢true (sym own ∙ (ap (λ j. (mark_at marks j).decided) (sym e) ∙ d))
+
+  pub back_kept : IsKept q marks
+  back_kept =
+      record {
+        whole = whole;
+        marked = record {
+          decided_told = λ m d. ap is_told (b.others m (apart m d)) ∙ k.marked.decided_told m d;
+          decided_free = λ m d. awake m;
+          closed = λ m d l has alive. k.marked.closed m d l (subst (λ (r : Row). Has l r.names) (b.others m (apart m d)) has) (sym (b.links l) ∙ alive);
+          waits = λ m w. absurd (let z = awake m in omega (arith, z, w));
+        };
+        each = k.each ∙ sym each;
+      }
+
+  pub back_decided : decided_of new marks ≡ decided_of old marks
+  back_decided =
+      decided_same old new marks marks (λ m. refl)
+      (λ m d.
+      let within : m < length old = decided_within p.numbers.entries old p.stamp k.whole marks k.marked m d in
+      (ap (λ (r : Row). r.id) (b.others m (apart m d)), within, omega (arith, within, each)))
+
+-- whether it has a row or not
+module _ (p q : Parts) (marks : List Mark) (k : IsKept p marks) (awake : (n : ℕ) → (mark_at marks n).waits.birth ≡ 0) (id : TxnId)
+    (undecided : is_listed is_txn (decided_of p.rows.items marks) id ≡ false)
+    (whole : IsWhole q) (each : length q.rows.items ≡ length p.rows.items)
+    (taken : (n : ℕ) → lookup (is_txn id) p.numbers.entries ≡ Some n → IsTakenBack n p.rows.items q.rows.items)
+    (same : lookup (is_txn id) p.numbers.entries ≡ None → q.rows.items ≡ p.rows.items) where
+  pub untold_kept : IsKept q marks
+  untold_kept = go (lookup (is_txn id) p.numbers.entries) refl
+    where
+      go : (o : Option ℕ) → lookup (is_txn id) p.numbers.entries ≡ o → IsKept q marks
+      go None e =
+          record { whole = whole; marked = subst (λ (rs : List Row). AreMarked rs marks) (sym (same e)) k.marked; each = k.each ∙ sym each }
+      go (Some n) e = back_kept p q marks k awake id n e undecided whole (taken n e) each
+
+  pub untold_decided : decided_of q.rows.items marks ≡ decided_of p.rows.items marks
+  untold_decided = go (lookup (is_txn id) p.numbers.entries) refl
+    where
+      go : (o : Option ℕ) → lookup (is_txn id) p.numbers.entries ≡ o → decided_of q.rows.items marks ≡ decided_of p.rows.items marks
+      go None e = ap (λ (rs : List Row). decided_of rs marks) (same e)
+      go (Some n) e = back_decided p q marks k awake id n e undecided whole (taken n e) each
+
+-- ---- several, one after another
+
+known_more : (news : List KnownList) (k : KnownList) (t : TxnId) → is_known (news ++ k ∷ []) t ≡ (is_known news t || is_txn t k.of)
+known_more [] k t = one (is_txn k.of t) ∙ is_txn-swap k.of t
+  where
+    one : (b : Bool) → is_some (cond b (Some k.edges) None) ≡ b
+    one true = refl
+    one false = refl
+known_more (x ∷ xs) k t = go (is_txn x.of t) (known_more xs k t)
+  where
+    go : (b : Bool) → is_known (xs ++ k ∷ []) t ≡ (is_known xs t || is_txn t k.of)
+        → is_some (cond b (Some x.edges) (list_of t (xs ++ k ∷ []))) ≡ (is_some (cond b (Some x.edges) (list_of t xs)) || is_txn t k.of)
+    go true ih = refl
+    go false ih = ih
+
+pub none_untold : (k : KeptLists) → k ≡ all_untold [] k
+none_untold k = λ i. record { known = sym (all_pass k.known) i; links = sym (all_pass k.links) i }
+  where
+    all_pass : (ks : List KnownList) → filter (λ l. not (is_known [] l.of)) ks ≡ ks
+    all_pass [] = refl
+    all_pass (l ∷ ls) = ap (λ ks. l ∷ ks) (all_pass ls)
+
+one_more_untold : (news : List KnownList) (n : KnownList) (k : KeptLists) → untold n.of (all_untold news k) ≡ all_untold (news ++ n ∷ []) k
+one_more_untold news n k = λ i. record { known = both k.known i; links = both k.links i }
+  where
+    both : (ks : List KnownList) → filter (λ l. not (is_txn l.of n.of)) (filter (λ l. not (is_known news l.of)) ks) ≡ filter (λ l. not (is_known (news ++ n ∷ []) l.of)) ks
+    both ks = filter_both (λ (l : KnownList). is_known (news ++ n ∷ []) l.of) (λ l. is_known news l.of) (λ l. is_txn l.of n.of) (λ l. known_more news n l.of) ks
+
+pub untold_next : (news : List KnownList) (i : ℕ) (n : KnownList) (k now next : KeptLists) → i < length news → n ≡ get_or news i n → now ≡ all_untold (take i news) k → next ≡ untold n.of now
+    → next ≡ all_untold (take (i + 1) news) k
+untold_next news i n k now next below is before e =
+    e ∙ (ap (untold n.of) before ∙ (one_more_untold (take i news) n k ∙ ap (λ l. all_untold l k) (front_more news i n below is)))

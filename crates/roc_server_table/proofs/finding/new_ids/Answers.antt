@@ -1,0 +1,51 @@
+use Rattle.std.proofs.Common.{◌≡◌, ℕ, List, map, Option, Result, Ok, Err, sym, subst}
+use Rattle.std.specs.Prelude.{IfOk, Vec}
+use Rattle.std.specs.declared.alloc.Global.{Global}
+use Rattle.roc_sequence.specs.Places.{IsListed, NoneTwice}
+use Rattle.roc_base.specs.declared.id.TxnId.{TxnId}
+use Rattle.roc_base.specs.declared.memory.NoMemory.{NoMemory}
+use Rattle.roc_base.specs.TxnId.{is_txn}
+use Rattle.roc_step.specs.New.{AreAllNew}
+use Rattle.roc_server_table.specs.declared.rows.Row.{Row}
+use Rattle.roc_server_table.specs.declared.rows.Parts.{Parts}
+use Rattle.roc_server_table.specs.declared.marks.Mark.{Mark}
+use Rattle.roc_server_table.specs.Inner.LinksBut.{links_but}
+use Rattle.roc_server_table.specs.Inner.Rows.{row_at, IsTable, IsWhole}
+use Rattle.roc_server_table.specs.Inner.Marks.{AreNewRowsBut}
+use Rattle.roc_server_table.specs.Inner.Kept.{decided_of}
+use Rattle.roc_server_table.proofs.NewIds.{alike_decided, all_new_ids, new_once}
+use Rattle.roc_server_table.proofs.finding.new_ids.Goals as goal
+
+-- what is found of rows that are those of the table
+found : (p : Parts) (rs : List Row) → rs ≡ p.rows.items → (except : Option ℕ) (marks : List Mark) (ns : List ℕ)
+    → ((numbers : List (TxnId × ℕ)) (stamp : ℕ) → IsTable numbers rs stamp → AreNewRowsBut except rs marks ns) → IsWhole p → AreNewRowsBut except p.rows.items marks ns
+found p rs e except marks ns f whole =
+    subst (λ (x : List Row). AreNewRowsBut except x marks ns) e (f p.numbers.entries p.stamp (subst (λ (x : List Row). IsTable p.numbers.entries x p.stamp) (sym e) whole))
+
+-- and of their transactions
+ids_found : (P : List TxnId → Type 0) (rows rs : List Row) (numbers ns : List ℕ) (r : Result (Vec TxnId Global) NoMemory) → rs ≡ rows → ns ≡ numbers → P (map (λ n. (row_at rows n).id) numbers)
+    → IfOk r (λ v. v.items ≡ map (λ n. (row_at rs n).id) ns) → IfOk r (λ v. P v.items)
+ids_found P rows rs numbers ns (Ok v) e f p h =
+    subst P (sym h) (subst (λ (x : List Row). P (map (λ n. (row_at x n).id) ns)) (sym e) (subst (λ (xs : List ℕ). P (map (λ n. (row_at rows n).id) xs)) (sym f) p))
+ids_found P rows rs numbers ns (Err x) e f p h = tt
+
+pub returns-in-Ok-clause-new : goal.returns-in-Ok-clause-new
+returns-in-Ok-clause-new c =
+    let p = c.args.parts.now in
+    let new = found p c.deref.result.now c.deref.ensures.value c.args.except c.args.marks.now c.in-Ok.numbers.items c.in-Ok.ensures.new c.requires.kept.whole in
+    ids_found (λ ids. AreAllNew (IsListed is_txn (decided_of p.rows.items c.args.marks.now)) (links_but c.args.except p.rows.items) ids) p.rows.items c.deref-in-Ok.result.now c.in-Ok.numbers.items
+    c.deref-in-Ok-2.result.now c.ids_at.result c.deref-in-Ok.ensures.value c.deref-in-Ok-2.ensures.value
+    (all_new_ids p c.args.marks.now c.requires.kept c.args.except c.in-Ok.numbers.items new) c.ids_at.ensures
+
+pub returns-in-Ok-clause-once : goal.returns-in-Ok-clause-once
+returns-in-Ok-clause-once c =
+    let p = c.args.parts.now in
+    let new = found p c.deref.result.now c.deref.ensures.value c.args.except c.args.marks.now c.in-Ok.numbers.items c.in-Ok.ensures.new c.requires.kept.whole in
+    ids_found (NoneTwice is_txn) p.rows.items c.deref-in-Ok.result.now c.in-Ok.numbers.items c.deref-in-Ok-2.result.now c.ids_at.result c.deref-in-Ok.ensures.value c.deref-in-Ok-2.ensures.value
+    (new_once p c.args.marks.now c.requires.kept c.args.except c.in-Ok.numbers.items new) c.ids_at.ensures
+
+pub returns-in-Ok-clause-same : goal.returns-in-Ok-clause-same
+returns-in-Ok-clause-same c = alike_decided c.args.parts.now c.args.marks.now c.newly.new.marks c.requires.kept c.newly.ensures.same
+
+pub returns-in-Err-clause-same : goal.returns-in-Err-clause-same
+returns-in-Err-clause-same c = alike_decided c.args.parts.now c.args.marks.now c.newly.new.marks c.requires.kept c.newly.ensures.same

@@ -1,0 +1,84 @@
+//! What rows and marks tell of transactions: which are newly decided, and their components.
+ghost use Rattle.std.specs.Prelude.{◌≡◌, map, IfOk};
+ghost use Rattle.roc_sequence.specs.Places.{IsListed, NoneTwice};
+ghost use Rattle.roc_base.specs.TxnId.{is_txn};
+ghost use Rattle.roc_component.specs.Components.{AreTaken};
+ghost use Rattle.roc_step.specs.Links.{without_links};
+ghost use Rattle.roc_step.specs.New.{AreAllNew};
+ghost use Rattle.roc_server_table.specs.Inner.Rows.{row_at, links_of, IsWhole};
+ghost use Rattle.roc_server_table.specs.Inner.Except.{IsExceptLive};
+ghost use Rattle.roc_server_table.specs.Inner.LinksBut.{links_but};
+ghost use Rattle.roc_server_table.specs.Inner.Kept.{decided_of, IsKept};
+
+use crate::components::{id_at, taken_of};
+use crate::marks::{Mark, newly};
+use crate::rows::{Parts, Row, number_of};
+use roc_base::{NoMemory, TxnId};
+use roc_sequence::Sequence;
+use std::alloc::Global;
+
+// The transactions that are decided and not marked so, each once, where links to the row `except` are not followed.
+pub(crate) fn new_ids(
+    parts: &Parts,
+    marks: &mut [Mark],
+    except: Option<usize>,
+) -> Result<Vec<TxnId>, NoMemory>
+    requires kept { IsKept parts.now marks.old }
+    requires live { IsExceptLive except parts.now.rows.items }
+    ensures kept { IsKept parts.now marks.new }
+    ensures same { decided_of parts.now.rows.items marks.new ≡ decided_of parts.now.rows.items marks.old }
+    ensures new { IfOk result (λ ids. AreAllNew (IsListed is_txn (decided_of parts.now.rows.items marks.old)) (links_but except parts.now.rows.items) ids.items) }
+    ensures once { IfOk result (λ ids. NoneTwice is_txn ids.items) }
+{
+    match newly(parts.alloc, &parts.rows, marks, except) {
+        Ok(numbers) => ids_at(parts.alloc, &parts.rows, &numbers),
+        Err(fault) => Err(fault),
+    }
+}
+
+// The transactions of rows.
+pub(crate) fn ids_at(alloc: Global, rows: &[Row], numbers: &[usize]) -> Result<Vec<TxnId>, NoMemory>
+    ensures { IfOk result (λ ids. ids.items ≡ map (λ n. (row_at rows.now n).id) numbers.now) }
+{
+    let mut ids = Vec::new(alloc);
+    for at in numbers {
+        ids.push(id_at(rows, *at))?;
+    }
+    Ok(ids)
+}
+
+// The same where entries that name one transaction are not followed.
+pub(crate) fn new_ids_without(
+    parts: &Parts,
+    marks: &mut [Mark],
+    id: TxnId,
+) -> Result<Vec<TxnId>, NoMemory>
+    requires kept { IsKept parts.now marks.old }
+    ensures kept { IsKept parts.now marks.new }
+    ensures same { decided_of parts.now.rows.items marks.new ≡ decided_of parts.now.rows.items marks.old }
+    ensures new { IfOk result (λ ids. AreAllNew (IsListed is_txn (decided_of parts.now.rows.items marks.old)) (map (without_links (λ t. is_txn t id)) (links_of parts.now.rows.items)) ids.items) }
+    ensures once { IfOk result (λ ids. NoneTwice is_txn ids.items) }
+{
+    let except = number_of(&parts.numbers, id);
+    new_ids(parts, marks, except)
+}
+
+// The components of transactions as they are taken, where entries that name one transaction are not followed.
+pub(crate) fn taken_without(
+    parts: &Parts,
+    id: TxnId,
+    ids: &[TxnId],
+) -> Result<Vec<Sequence<TxnId>>, NoMemory>
+    requires { IsWhole parts.now }
+    ensures { IfOk result (λ components. AreTaken (map (without_links (λ t. is_txn t id)) (links_of parts.now.rows.items)) ids.now components.items) }
+{
+    let except = number_of(&parts.numbers, id);
+    taken_of(
+        parts.alloc,
+        &parts.numbers,
+        &parts.rows,
+        parts.stamp,
+        ids,
+        except,
+    )
+}

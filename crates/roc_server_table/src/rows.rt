@@ -1,0 +1,332 @@
+//! Rows by number.
+ghost use Rattle.std.specs.Prelude.{◌≡◌, ℕ, ◌<◌, ◌≤◌, ◌+◌, ◌==◌, ◌++◌, [], filter, length, map, not, None, Some, IfOk, IfSome, OnOk, OnErr, MatchOption, option_copied};
+ghost use Rattle.std.specs.Vec.{vec_capacity, vec_len};
+ghost use Rattle.std.specs.Map.{lookup};
+ghost use Rattle.std.specs.List.Sorted.{IsStrictlySortedBy};
+ghost use Rattle.roc_sequence.specs.Places.{is_listed};
+ghost use Rattle.roc_base.specs.declared.id.TxnId.{TxnId as Id};
+ghost use Rattle.roc_base.specs.Edge.{Dependency};
+ghost use Rattle.roc_base.specs.TxnId.{is_txn, txn_cmp};
+ghost use Rattle.roc_depgraph.specs.Deps.{list_of};
+ghost use Rattle.roc_server_table.specs.Inner.Changes.{ended, untold, with_list};
+ghost use Rattle.roc_server_table.specs.Inner.Marks.{IsLearnt, IsOut, IsTakenBack};
+ghost use Rattle.roc_step.specs.Links.{all_entries, least_naming};
+ghost use Rattle.roc_server_table.specs.Inner.Rows.{row_at, AreNames, Grows, GrowsTo, IsLinkFor, IsPlaced, IsRowOf, IsTable, IsWhole, followed, known_of, lists_of, told_entries, told_list};
+
+use roc_base::{Edge, Edges, NoMemory, TxnId};
+use roc_depgraph::is_among_rising;
+use roc_sequence::Sequence;
+use std::alloc::Global;
+use std::collections::HashMap;
+
+// The row of what a link names, and the birth of that. A birth of 0 is of nothing: the entry is done.
+#[derive(Clone, Copy)]
+pub(crate) struct Link {
+    pub at: usize,
+    pub birth: u64,
+}
+
+// What is kept of a transaction. A row without a birth is free; one without a turn has no list.
+#[derive(Drop)]
+pub(crate) struct Row {
+    pub id: TxnId,
+    pub birth: u64,
+    pub turn: u64,
+    pub edges: Edges,
+    pub names: Sequence<Link>,
+    pub next: usize,
+}
+
+// The rows, the number of each transaction that has one, the first free row, and the next birth or turn.
+#[derive(Drop)]
+pub(crate) struct Parts {
+    pub alloc: Global,
+    pub numbers: HashMap<TxnId, usize>,
+    pub rows: Vec<Row>,
+    pub free: usize,
+    pub stamp: u64,
+}
+
+// No rows.
+pub(crate) fn none(alloc: Global) -> Parts
+    ensures whole { IsWhole result }
+    ensures rows { result.rows.items ≡ [] }
+{
+    Parts {
+        alloc,
+        numbers: HashMap::new(alloc),
+        rows: Vec::new(alloc),
+        free: 0,
+        stamp: 1,
+    }
+}
+
+// The number of the row of a transaction.
+pub(crate) fn number_of(numbers: &HashMap<TxnId, usize>, id: TxnId) -> Option<usize>
+    ensures { result ≡ lookup (is_txn id) numbers.now.entries }
+{
+    numbers.get(&id).copied()
+}
+
+// Puts a row where one is free, or behind the others, where there is room.
+fn place(rows: &mut Vec<Row>, free: &mut usize, row: Row) -> usize
+    requires { vec_len rows.old < vec_capacity rows.old }
+    ensures { IsPlaced rows.old.items rows.new.items row result }
+{
+    let at = *free;
+    if at < rows.len() {
+        if rows[at].birth == 0 {
+            *free = rows[at].next;
+            rows[at] = row;
+            return at;
+        }
+    }
+    let at = rows.len();
+    rows.push(row).unwrap();
+    at
+}
+
+// The row of a transaction, with the birth of what it names; one is made where it has none.
+fn link_to(parts: &mut Parts, id: TxnId) -> Result<Link, NoMemory>
+    requires whole { IsWhole parts.old }
+    ensures whole { IsWhole parts.new }
+    ensures grows { GrowsTo parts.old parts.new }
+    ensures no_fewer { length parts.old.rows.items ≤ length parts.new.rows.items }
+    ensures at_most { length parts.new.rows.items ≤ length parts.old.rows.items + 1 }
+    ensures row { IfOk result (λ link. IsRowOf parts.new.rows.items link.at id) }
+    ensures birth { IfOk result (λ link. (row_at parts.new.rows.items link.at).birth ≡ link.birth) }
+{
+    match number_of(&parts.numbers, id) {
+        Some(at) => Ok(link_at(&parts.rows, at)),
+        None => make(parts, id),
+    }
+}
+
+// The link to the row at a number.
+fn link_at(rows: &[Row], at: usize) -> Link
+    requires { at < length rows.now }
+    ensures at { result.at ≡ at }
+    ensures birth { (row_at rows.now at).birth ≡ result.birth }
+{
+    Link {
+        at,
+        birth: rows[at].birth,
+    }
+}
+
+// Makes the row of a transaction that has none.
+fn make(parts: &mut Parts, id: TxnId) -> Result<Link, NoMemory>
+    requires whole { IsWhole parts.old }
+    requires absent { lookup (is_txn id) parts.old.numbers.entries ≡ None }
+    ensures whole { IsWhole parts.new }
+    ensures grows { GrowsTo parts.old parts.new }
+    ensures no_fewer { length parts.old.rows.items ≤ length parts.new.rows.items }
+    ensures at_most { length parts.new.rows.items ≤ length parts.old.rows.items + 1 }
+    ensures row { IfOk result (λ link. IsRowOf parts.new.rows.items link.at id) }
+    ensures birth { IfOk result (λ link. (row_at parts.new.rows.items link.at).birth ≡ link.birth) }
+{
+    let birth = parts.stamp;
+    if birth == u64::MAX {
+        return Err(NoMemory);
+    }
+    parts.numbers.reserve(1)?;
+    parts.rows.reserve(1)?;
+    parts.stamp = birth + 1;
+    let row = unknown_row(parts.alloc, id, birth);
+    let at = place(&mut parts.rows, &mut parts.free, row);
+    let put: Result<_, _> = parts.numbers.insert(id, at);
+    put.unwrap();
+    Ok(Link { at, birth })
+}
+
+// The row of a transaction whose list is unknown.
+fn unknown_row(alloc: Global, id: TxnId, birth: u64) -> Row
+    ensures id { result.id ≡ id }
+    ensures birth { result.birth ≡ birth }
+    ensures turn { result.turn ≡ 0 }
+    ensures edges { result.edges ≡ [] }
+    ensures names { result.names ≡ [] }
+{
+    Row {
+        id,
+        birth,
+        turn: 0,
+        edges: Edges::new(alloc),
+        names: Sequence::new(alloc),
+        next: 0,
+    }
+}
+
+// What entries name: but for those of some transactions, which rise, the row of each.
+fn names_of(parts: &mut Parts, edges: &[Edge], done: &[TxnId]) -> Result<Sequence<Link>, NoMemory>
+    requires whole { IsWhole parts.old }
+    requires rising { IsStrictlySortedBy txn_cmp done.now }
+    ensures whole { IsWhole parts.new }
+    ensures grows { GrowsTo parts.old parts.new }
+    ensures no_fewer { length parts.old.rows.items ≤ length parts.new.rows.items }
+    ensures at_most { length parts.new.rows.items ≤ length parts.old.rows.items + length edges.now }
+    ensures names { IfOk result (AreNames parts.new.rows.items parts.new.stamp edges.now) }
+    ensures followed { IfOk result (λ names. followed parts.new.rows.items edges.now names ≡ filter (λ d. not (is_listed is_txn done.now d.from)) edges.now) }
+{
+    let mut names = Sequence::new(parts.alloc);
+    for edge in edges {
+        let link = link_of(parts, edge.from(), done)?;
+        names.push(link)?;
+    }
+    Ok(names)
+}
+
+// The link of an entry that names a transaction.
+fn link_of(parts: &mut Parts, id: TxnId, done: &[TxnId]) -> Result<Link, NoMemory>
+    requires whole { IsWhole parts.old }
+    requires rising { IsStrictlySortedBy txn_cmp done.now }
+    ensures whole { IsWhole parts.new }
+    ensures grows { GrowsTo parts.old parts.new }
+    ensures no_fewer { length parts.old.rows.items ≤ length parts.new.rows.items }
+    ensures at_most { length parts.new.rows.items ≤ length parts.old.rows.items + 1 }
+    ensures link { IfOk result (IsLinkFor parts.new.rows.items parts.new.stamp id (is_listed is_txn done.now id)) }
+{
+    if is_among_rising(done, id) {
+        return Ok(Link { at: 0, birth: 0 });
+    }
+    link_to(parts, id)
+}
+
+// Learns a list of a transaction of which none is known, behind the others: the number of its row.
+pub(crate) fn learn(
+    parts: &mut Parts,
+    id: TxnId,
+    edges: Edges,
+    done: &[TxnId],
+) -> Result<usize, NoMemory>
+    requires whole { IsWhole parts.old }
+    requires unknown { list_of id (known_of parts.old.rows.items) ≡ None }
+    requires rising { IsStrictlySortedBy txn_cmp done.now }
+    ensures whole { IsWhole parts.new }
+    ensures ok { OnOk result (lists_of parts.new.rows.items ≡ with_list done.now id edges (lists_of parts.old.rows.items)) }
+    ensures learnt { IfOk result (IsLearnt parts.old parts.new) }
+    ensures row { IfOk result (λ at. lookup (is_txn id) parts.new.numbers.entries ≡ Some at) }
+    ensures err { OnErr result (lists_of parts.new.rows.items ≡ lists_of parts.old.rows.items) }
+    ensures grown { OnErr result (Grows parts.old.rows.items parts.new.rows.items parts.old.stamp parts.new.stamp) }
+    ensures no_fewer { length parts.old.rows.items ≤ length parts.new.rows.items }
+    ensures at_most { length parts.new.rows.items ≤ length parts.old.rows.items + length edges + 1 }
+{
+    let link = link_to(parts, id)?;
+    let names = names_of(parts, edges.as_slice(), done)?;
+    let turn = parts.stamp;
+    if turn == u64::MAX {
+        return Err(NoMemory);
+    }
+    parts.stamp = turn + 1;
+    let row = Row {
+        id,
+        birth: link.birth,
+        turn,
+        edges,
+        names,
+        next: 0,
+    };
+    parts.rows[link.at] = row;
+    Ok(link.at)
+}
+
+// Ends the row of a transaction, where it has one. Takes no memory, and looks at no other row.
+pub(crate) fn end(parts: &mut Parts, id: TxnId)
+    requires whole { IsWhole parts.old }
+    ensures whole { IsWhole parts.new }
+    ensures lists { lists_of parts.new.rows.items ≡ ended id (lists_of parts.old.rows.items) }
+    ensures out { (n : ℕ) → lookup (is_txn id) parts.old.numbers.entries ≡ Some n → IsOut n parts.old.rows.items parts.new.rows.items }
+    ensures same { lookup (is_txn id) parts.old.numbers.entries ≡ None → parts.new.rows.items ≡ parts.old.rows.items }
+    ensures each { length parts.new.rows.items ≡ length parts.old.rows.items }
+{
+    if let Some(at) = parts.numbers.remove(&id) {
+        let mut row = unknown_row(parts.alloc, id, 0);
+        row.next = parts.free;
+        parts.rows[at] = row;
+        parts.free = at;
+    }
+}
+
+// Takes the list of a transaction back, where one is known; entries that name it are followed still. Takes no memory.
+pub(crate) fn untell(parts: &mut Parts, id: TxnId)
+    requires whole { IsWhole parts.old }
+    ensures whole { IsWhole parts.new }
+    ensures lists { lists_of parts.new.rows.items ≡ untold id (lists_of parts.old.rows.items) }
+    ensures taken { (n : ℕ) → lookup (is_txn id) parts.old.numbers.entries ≡ Some n → IsTakenBack n parts.old.rows.items parts.new.rows.items }
+    ensures same { lookup (is_txn id) parts.old.numbers.entries ≡ None → parts.new.rows.items ≡ parts.old.rows.items }
+    ensures each { length parts.new.rows.items ≡ length parts.old.rows.items }
+{
+    if let Some(at) = number_of(&parts.numbers, id) {
+        let birth = link_at(&parts.rows, at).birth;
+        let row = unknown_row(parts.alloc, id, birth);
+        parts.rows[at] = row;
+    }
+}
+
+// The list of the row of a transaction, where it has one.
+pub(crate) fn list<'a>(
+    numbers: &HashMap<TxnId, usize>,
+    rows: &'a [Row],
+    stamp: u64,
+    id: TxnId,
+) -> Option<&'a Edges>
+    requires whole { IsTable numbers.now.entries rows.now stamp }
+    ensures { option_copied result ≡ list_of id (known_of rows.now) }
+{
+    match number_of(numbers, id) {
+        Some(at) => told_at(rows, at),
+        None => None,
+    }
+}
+
+// The list of the row at a number, where it has one.
+fn told_at(rows: &[Row], at: usize) -> Option<&Edges>
+    requires { at < length rows.now }
+    ensures { option_copied result ≡ told_list (row_at rows.now at) }
+{
+    told(&rows[at])
+}
+
+// The list of a row, where it has one.
+fn told(row: &Row) -> Option<&Edges>
+    ensures { option_copied result ≡ told_list row.now }
+{
+    if row.turn == 0 {
+        return None;
+    }
+    Some(&row.edges)
+}
+
+// The least of a number and of the numbers of all shards at which entries name a transaction.
+pub(crate) fn least_naming(rows: &[Row], id: TxnId, at: u16) -> u16
+    ensures least { result ≡ least_naming id at (all_entries (known_of rows.now)) }
+    ensures bound { result ≤ at }
+{
+    let mut least = at;
+    for row in rows {
+        least = least_at(row, id, least);
+    }
+    least
+}
+
+// The same of the entries of one row, where it has a list.
+fn least_at(row: &Row, id: TxnId, at: u16) -> u16
+    ensures { result ≡ least_naming id at (told_entries row.now) }
+{
+    if row.turn == 0 {
+        return at;
+    }
+    least_in(&row.edges, id, at)
+}
+
+// The same of the entries of one list.
+fn least_in(edges: &Edges, id: TxnId, at: u16) -> u16
+    ensures { result ≡ least_naming id at edges.now }
+{
+    // A list rises, so one look finds all that it says of the transaction.
+    let _rising = edges.as_slice();
+    match edges.find(id) {
+        Some(edge) => at.min(u16::from(edge.at().0)),
+        None => at,
+    }
+}
