@@ -40,17 +40,17 @@ def cluster(ports: list[int]) -> str:
     return "".join(f'[[shard]]\nnumber = {shard}\nhost = "{HOST}"\nport = {port}\n\n' for shard, port in enumerate(ports))
 
 
-def serve(load: str, nodes: str, shard: int) -> subprocess.Popen:
+def serve(load: str, nodes: str, shard: int, more: tuple[str, ...] = ()) -> subprocess.Popen:
     """A server that counts, once its address is bound."""
-    words = [program(), "serve", load, nodes, "--shard", str(shard), "--turns", str(ENDLESS), "--counts"]
+    words = [program(), "serve", load, nodes, "--shard", str(shard), "--turns", str(ENDLESS), "--counts", *more]
     server = subprocess.Popen(words, stdout=subprocess.PIPE, text=True)
     if server.stdout.readline() != f"serving {shard}\n":
         sys.exit(f"the server of shard {shard} does not serve: is its port in use?")
     return server
 
 
-def submit(load: str, nodes: str, requests: str, coordinator: int, turns: int = ENDLESS, output=subprocess.PIPE) -> subprocess.Popen:
-    words = [program(), "submit", load, nodes, requests, "--coord", str(coordinator), "--turns", str(turns)]
+def submit(load: str, nodes: str, requests: str, coordinator: int, turns: int = ENDLESS, output=subprocess.PIPE, more: tuple[str, ...] = ()) -> subprocess.Popen:
+    words = [program(), "submit", load, nodes, requests, "--coord", str(coordinator), "--turns", str(turns), *more]
     return subprocess.Popen(words, stdout=output, text=True)
 
 
