@@ -1,13 +1,13 @@
 -- What the program makes of `audit` and names of files
 use Rattle.std.proofs.Common.{◌≡◌, ◌≤◌, ◌<◌, List, [], ◌∷◌, length, take, Some, Ok, false, refl, ap, sym, ◌∙◌, codes, arith}
-use Rattle.std.specs.Prelude.{fold, find, unwrap_or, option_and_then, is_some}
+use Rattle.std.specs.Prelude.{fold, unwrap_or, option_and_then}
 use Rattle.std.specs.List.{AllByRecursion}
 use Rattle.std.proofs.lemmas.List.{take_all}
-use Rattle.clap.specs.Words.{App, Row, Rule, Shape, Text, built, subcommand_of}
-use Rattle.clap.specs.Walk.{Held, Walk, answers_to, arg_by_index, finished, nothing_held, rows_after, settled, used, walk, walk_from, walked}
-use Rattle.clap.specs.Simple.{entered, label_of, names_of, new_rule, new_shape}
-use Rattle.clap.specs.Faults.{fault_of, level_fault, walk_fault, settle_fault, defaults_fault, check_fault, entered_fault}
-use Rattle.clap.specs.Kinds.{Kinds, or_else, range_kinds}
+use Rattle.clap.specs.Words.{Row, Rule, Shape, Text}
+use Rattle.clap.specs.Walk.{Walk, arg_by_index, finished, nothing_held, used, walk, walk_from, walked}
+use Rattle.clap.specs.Simple.{new_rule}
+use Rattle.clap.specs.Faults.{fault_of, level_fault, walk_fault, settle_fault}
+use Rattle.clap.specs.Kinds.{or_else, range_kinds}
 use Rattle.clap.specs.declared.error.kind.ErrorKind.TheVariants as kind
 use Rattle.clap.proofs.OnLiterals.{clap_on_literals}
 use Rattle.roc_cli_words.specs.Program.{program_app, IsTakenByClap}
@@ -15,15 +15,13 @@ use Rattle.roc_cli_words.specs.Commands.{audit, command_by, command_in, most_log
 use Rattle.roc_cli_words.specs.Answer.{AreWordsOf, AreNoCommand, IsPlainWord}
 use Rattle.roc_cli_words.proofs.Taken.{taken}
 use Rattle.roc_cli_words.proofs.Named.{plain_word}
-use Rattle.roc_cli_words.proofs.Several.{IsName, stopped_at, stopped_walk, stopped_fault, taking, taking_walk, taking_fault, TakesSeveral, nothing_behind, two_clear, range_clear, range_refuses}
+use Rattle.roc_cli_words.proofs.Entering.{IsEntered, shape_named, behind, fault_entered, rows_entered}
+use Rattle.roc_cli_words.proofs.Several.{IsName, taking, taking_walk, taking_fault, TakesSeveral, nothing_behind, two_clear, range_clear, range_refuses}
 use Rattle.roc_cli_words.proofs.Several.{texts_clear}
 
--- the program as it is built, the shape of `audit` in it, and its two arguments
-abbrev program : App
-program = built program_app
-
+-- the shape of `audit` in the program, and its two arguments
 abbrev shape : Shape
-shape = unwrap_or (find (λ s. answers_to (codes "audit") (label_of s)) program.subs) (new_shape [])
+shape = shape_named (codes "audit")
 
 abbrev workload_rule : Rule
 workload_rule = unwrap_or (arg_by_index shape.rules 1) (new_rule [])
@@ -34,37 +32,9 @@ logs_rule = unwrap_or (arg_by_index shape.rules 2) (new_rule [])
 abbrev begun : Walk
 begun = walk_from nothing_held
 
--- ---- the program's own words
-
-stops : walked program.top.rules (names_of program) begun (codes "audit") ≡ stopped_at program.top (names_of program) begun (codes "audit") []
+enters_audit : IsEntered (codes "audit")
 unfolding clap_on_literals program_app
-stops = refl
-
-module _ (rest : List Text) where
-  abbrev end : Walk
-  end = walk program.top.rules (names_of program) nothing_held (codes "audit" ∷ rest)
-
-  whole_walk : end ≡ stopped_at program.top (names_of program) begun (codes "audit") rest
-  whole_walk = ap (λ v. fold (walked program.top.rules (names_of program)) v rest) stops ∙ stopped_walk program.top (names_of program) begun (codes "audit") [] rest
-
-  walk_clear : walk_fault program.top (names_of program) begun (codes "audit" ∷ rest) ≡ walk_fault program.top (names_of program) (walked program.top.rules (names_of program) begun (codes "audit")) rest
-  unfolding clap_on_literals program_app
-  walk_clear = refl
-
-  -- the program finds no fault but that of `audit`
-  whole_fault : fault_of program_app (codes "audit" ∷ rest) ≡ level_fault shape [] nothing_held rest false []
-  unfolding clap_on_literals program_app
-  whole_fault =
-      ap (λ k. or_else k (or_else (entered_fault program end.stopped) (or_else (settle_fault program.top.rules program.top.args_override_self end.held)
-      (or_else (defaults_fault (settled program.top.rules end.held).rows program.top.rules) (check_fault program.top (finished program.top.rules end.held) (is_some (entered program end.stopped)))))))
-      (walk_clear ∙ ap (λ v. walk_fault program.top (names_of program) v rest) stops ∙ stopped_fault program.top (names_of program) begun (codes "audit") [] rest)
-      ∙ ap (λ (w : Walk). or_else (entered_fault program w.stopped) (or_else (settle_fault program.top.rules program.top.args_override_self w.held)
-      (or_else (defaults_fault (settled program.top.rules w.held).rows program.top.rules) (check_fault program.top (finished program.top.rules w.held) (is_some (entered program w.stopped)))))) whole_walk
-      ∙ nothing_behind _
-
-  whole_rows : subcommand_of program_app (codes "audit" ∷ rest) ≡ Some (codes "audit", rows_after shape.rules [] rest)
-  unfolding clap_on_literals program_app
-  whole_rows = ap (λ (w : Walk). entered program w.stopped) whole_walk
+enters_audit = record { stops = refl; clear = refl; found = refl; named = refl }
 
 -- ---- the words of `audit`
 
@@ -99,27 +69,22 @@ module _ (workload : Text) (named : IsName workload) (first : Text) (one : IsNam
   unfolding clap_on_literals program_app
   settle_is = ap (or_else (range_kinds 1 80 (length (first ∷ rest)))) (texts_clear false (first ∷ rest)) ∙ nothing_behind _
 
-  -- what comes behind the walk, by where it ended
-  abbrev behind : Held → Kinds
-  behind held = or_else (settle_fault shape.rules shape.args_override_self held)
-      (or_else (defaults_fault (settled shape.rules held).rows shape.rules) (check_fault shape (finished shape.rules held) false))
-
-  behind_is : behind (took (first ∷ rest)).held ≡ or_else (settle_fault shape.rules shape.args_override_self (took (first ∷ rest)).held) []
+  behind_is : behind shape (took (first ∷ rest)).held ≡ or_else (settle_fault shape.rules shape.args_override_self (took (first ∷ rest)).held) []
   unfolding clap_on_literals program_app
   behind_is = refl
 
   level_is : level_fault shape [] nothing_held (workload ∷ first ∷ rest) false [] ≡ range_kinds 1 80 (length (first ∷ rest))
   level_is =
-      ap (λ k. or_else k (behind (walk shape.rules [] nothing_held (workload ∷ first ∷ rest)).held)) inner_clear
-      ∙ ap (λ (w : Walk). behind w.held) inner_walk ∙ behind_is ∙ nothing_behind _ ∙ settle_is
+      ap (λ k. or_else k (behind shape (walk shape.rules [] nothing_held (workload ∷ first ∷ rest)).held)) inner_clear
+      ∙ ap (λ (w : Walk). behind shape w.held) inner_walk ∙ behind_is ∙ nothing_behind _ ∙ settle_is
 
   fault_is : fault_of program_app (codes "audit" ∷ workload ∷ first ∷ rest) ≡ range_kinds 1 80 (length (first ∷ rest))
-  fault_is = whole_fault (workload ∷ first ∷ rest) ∙ level_is
+  fault_is = fault_entered (codes "audit") enters_audit (workload ∷ first ∷ rest) ∙ level_is
 
   asks : command_by (codes "audit" ∷ workload ∷ first ∷ rest) ≡ Some (Ok (audit workload (take most_logs (first ∷ rest))))
   unfolding clap_on_literals program_app command_by
   asks =
-      ap (option_and_then command_in) (whole_rows (workload ∷ first ∷ rest))
+      ap (option_and_then command_in) (rows_entered (codes "audit") enters_audit (workload ∷ first ∷ rest))
       ∙ ap (λ (w : Walk). command_in (codes "audit", finished shape.rules w.held)) inner_walk
 
   few : length (first ∷ rest) ≤ most_logs → AreWordsOf (codes "audit" ∷ workload ∷ first ∷ rest) (audit workload (first ∷ rest))

@@ -5,3 +5,8 @@ mod Named
 mod Kept
 mod Several
 mod Auditing
+mod NumberWords
+mod Entering
+mod NodeWords
+mod ServerWords
+mod CoordinatorWords

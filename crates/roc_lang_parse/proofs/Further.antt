@@ -69,6 +69,22 @@ past_standard l = record {
   depth = record { above = omega arith; further = omega arith };
 }
 
+-- past limits that are the standard ones but for the integers of an id
+pub past_ids : (ids : ℕ) → 1 ≤ ids → Further (record standard { ids = ids }) (past (record standard { ids = ids }))
+unfolding past
+past_ids ids some = record {
+  tables = omega arith;
+  columns = record { above = omega arith; further = omega arith };
+  arity = record { some = lit≤ tt; low = lit< tt; no_least = omega arith; no_most = omega arith };
+  ids = record { above = some; further = omega arith };
+  inits = omega arith;
+  procedures = omega arith;
+  arguments = record { above = omega arith; further = omega arith };
+  pieces = record { above = omega arith; further = omega arith };
+  statements = omega arith;
+  depth = record { above = omega arith; further = omega arith };
+}
+
 further_expression : (k k' : ℕ) → k ≤ k' → {ts us : List Token} {e : Expression} → IsExpression k ts us e → IsExpression k' ts us e
 further_expression k k' h i = let d = deep_sum i in let f = d.fits in bounded_sum d.is k' (omega arith)
 

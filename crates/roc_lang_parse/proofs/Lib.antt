@@ -22,3 +22,7 @@ pub mod Answers
 pub mod Runs
 pub mod Scans
 pub mod Unique
+mod Counted
+mod Spared
+mod Alike
+mod Ids

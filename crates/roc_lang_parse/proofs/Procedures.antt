@@ -183,7 +183,7 @@ exact_viewed : Exact ViewedOpening ViewedOpening any viewed_at viewed_at
 unfolding viewed_at
 exact_viewed = exact_next (exact_word (codes "view")) (λ w. exact_mapped (λ o. true) (exact_mark open_brace))
 
-exact_opening : Exact IsOpening IsOpening any opening_at opening_at
+pub exact_opening : Exact IsOpening IsOpening any opening_at opening_at
 unfolding opening_at
 exact_opening =
     let choice : Chooses (has_word (codes "view")) true true ViewedOpening ViewedOpening PlainOpening PlainOpening any viewed_at viewed_at (mapped (λ o. false) (mark_at open_brace)) (mapped (λ o. false) (mark_at open_brace)) = record {

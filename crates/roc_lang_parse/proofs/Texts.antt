@@ -107,7 +107,7 @@ table_from l ts us t (table {b = b} {c = c} {e = e} {f = f} w n r o cs z fits) =
       };
     }
 
-exact_table : (l l' : Limits) → Further l l' → Exact (IsTable l) (IsTable l') any (table_at l) (table_at l')
+pub exact_table : (l l' : Limits) → Further l l' → Exact (IsTable l) (IsTable l') any (table_at l) (table_at l')
 unfolding table_at
 exact_table l l' f =
     exact_same (table_to l f.columns.above) (table_from l) (table_to l' (higher _ _ f.columns)) (table_from l')
@@ -218,10 +218,10 @@ exact_shards =
     subst (λ z. IsShards (t ∷ us) us z.0 z.1) (sym same) (record { is = ap (λ z. let u : Token = record { kind = z; line = t.line } in u ∷ us) parts.0; fits = parts.1 })))
     (λ ts us x i. record { token = record { kind = Integer x.0; line = x.1 }; is = i.is; takes = ap (option_map (λ n. (n, x.1))) (small_taken x.0 i.fits) })
 
-abbrev Fronts : Rule (ℕ × ℕ)
+abbrev pub Fronts : Rule (ℕ × ℕ)
 Fronts = Then (Tokens (Word (codes "shards"))) (λ w. Then Shards (λ n. Mapped (λ s. n) (Tokens (Mark semicolon))))
 
-exact_front : Exact Fronts Fronts any front_at front_at
+pub exact_front : Exact Fronts Fronts any front_at front_at
 unfolding front_at
 exact_front = exact_next (exact_word (codes "shards")) (λ w. exact_next exact_shards (λ n. exact_mapped (λ s. n) (exact_mark semicolon)))
 
@@ -231,7 +231,7 @@ abbrev pub at_end : Stop
 at_end None = true
 at_end (Some k) = false
 
-record End (ts us : List Token) (x : Unit {0}) : Type 0 where
+pub record End (ts us : List Token) (x : Unit {0}) : Type 0 where
   pub nothing : ts ≡ []
   pub nothing_left : us ≡ []
 
@@ -256,7 +256,7 @@ unfolding end_at
 stuck_end [] b read = absurd (ok-err (tt, []) b read)
 stuck_end (t ∷ ts) b read = subst (λ z. Refused End End at_end (t ∷ ts) z) (err_same (record { past = false; rest = t ∷ ts }) b read) (record { taken = []; split = refl; front = end_front; why = λ ws rest x e i. let h = ap length i.nothing in absurd (omega arith) })
 
-exact_end : Exact End End at_end end_at end_at
+pub exact_end : Exact End End at_end end_at end_at
 exact_end = record { weaker = λ ts us x e. e; some = end_front; all = λ ts us x e h. all_end ts us x e; all_any = λ ts us x e h. all_end ts us x e; reads = reads_end; stuck = stuck_end }
 
 -- ---- texts

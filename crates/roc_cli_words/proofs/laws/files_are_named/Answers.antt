@@ -1,5 +1,6 @@
 use Rattle.roc_cli_words.proofs.Auditing.{audits, too_many}
 use Rattle.roc_cli_words.proofs.Named.{checks, prints, replays}
+use Rattle.roc_cli_words.proofs.NodeWords.{grown_replays}
 use Rattle.roc_cli_words.proofs.laws.files_are_named.Goals as goal
 
 pub returns-clause-check : goal.returns-clause-check
@@ -10,6 +11,9 @@ returns-clause-print c = prints
 
 pub returns-clause-replay : goal.returns-clause-replay
 returns-clause-replay c = replays
+
+pub returns-clause-growth : goal.returns-clause-growth
+returns-clause-growth c = grown_replays
 
 pub returns-clause-audit : goal.returns-clause-audit
 returns-clause-audit c = audits
