@@ -1,7 +1,7 @@
 -- What a link binds, sends and receives.
-use Rattle.std.specs.Prelude.{◌≡◌, ℕ, ◌-◌, ◌<◌, Bool, true, false, List, [], ◌∷◌, length, Option, Some, None, IfSome, option_map}
+use Rattle.std.specs.Prelude.{◌≡◌, ℕ, ◌-◌, ◌<◌, ◌≤◌, Bool, true, false, List, [], ◌∷◌, length, map, Option, Some, None, IfSome, option_map}
 use Rattle.roc_io.specs.Cause.{last_count}
-use Rattle.roc_io.specs.Observed.{Adds, AllBut}
+use Rattle.roc_io.specs.Observed.{Adds}
 use Rattle.roc_io.specs.declared.link.Bound.{Bound}
 use Rattle.roc_io.specs.declared.link.Bound.TheVariants.{Ok as BoundOk, Failed as BoundFailed}
 use Rattle.roc_io.specs.declared.link.Sent.{Sent}
@@ -62,28 +62,50 @@ HearsTold given (Some old) None = ⊥
 
 -- ---- what goes over a link, in order
 
--- a datagram that a link took for sending, or what a receive gave
+-- a datagram that a link took for sending, one that it did not take, or what a receive gave
 pub data LinkEvent : Type 0 where
   sending : Packet → LinkEvent
+  losing : Packet → LinkEvent
   receiving : Reception → LinkEvent
 
--- the datagrams among events, in order
+-- the event of a send that failed or did not
+abbrev pub send_event : (failed : Bool) → Packet → LinkEvent
+send_event true packet = losing packet
+send_event false packet = sending packet
+
+-- the datagrams among events that a link took, in order
 abbrev pub sends_of : List LinkEvent → List Packet
 sends_of [] = []
 sends_of (sending packet ∷ events) = packet ∷ sends_of events
+sends_of (losing packet ∷ events) = sends_of events
 sends_of (receiving given ∷ events) = sends_of events
+
+-- those that it did not take
+abbrev pub losses_of : List LinkEvent → List Packet
+losses_of [] = []
+losses_of (sending packet ∷ events) = losses_of events
+losses_of (losing packet ∷ events) = packet ∷ losses_of events
+losses_of (receiving given ∷ events) = losses_of events
 
 -- what the receives among them gave, in order
 abbrev pub receives_of : List LinkEvent → List Reception
 receives_of [] = []
 receives_of (sending packet ∷ events) = receives_of events
+receives_of (losing packet ∷ events) = receives_of events
 receives_of (receiving given ∷ events) = given ∷ receives_of events
 
--- A link was asked for these events, in this order, while its count of lost sends went from the first number to the second. Where new is told,
--- it is old with the same events behind it, in the same order: each receive, and all sends but at most as many as were counted as lost, as
--- long as that count stays below its last value. So each send stands behind the receives that it was asked for behind, and before the others.
-pub record AddsEvents (lost_old lost_new : ℕ) (old new : Option (List LinkEvent)) (asked : List LinkEvent) : Type 0 where
+-- what a link was asked for where this came of it: a send that it did not take was asked for as one that it took
+abbrev pub asked_for : LinkEvent → LinkEvent
+asked_for (sending packet) = sending packet
+asked_for (losing packet) = sending packet
+asked_for (receiving given) = receiving given
+
+-- A link was asked for these events, in this order, while its count of lost sends went from the first number to the second. What came of them
+-- stands at the same places: each receive, and each send as taken or as lost. Where new is told, it is old with these behind it; and the link sent
+-- those that it took, where that is told. As many as it lost were counted, or more, as long as that count stays below its last value.
+pub record AddsEvents (lost_old lost_new : ℕ) (sent_old sent_new : Option (List Packet)) (old new : Option (List LinkEvent)) (asked : List LinkEvent) : Type 0 where
   pub told : List LinkEvent
   pub adds : Adds old new told
-  pub each_receive : receives_of told ≡ receives_of asked
-  pub all_but_lost : lost_new < last_count → AllBut (lost_new - lost_old) asked told
+  pub each : map asked_for told ≡ asked
+  pub sent : Adds sent_old sent_new (sends_of told)
+  pub lost : lost_new < last_count → length (losses_of told) ≤ lost_new - lost_old

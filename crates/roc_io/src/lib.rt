@@ -2,8 +2,8 @@
 //!
 //! A trait counts its own failures, and a contract sees the counts and, as far as the object tells it, the content: the
 //! bytes that a name holds, the names whose reads failed, the bytes that a sink took, the datagrams that are to arrive
-//! and those that were sent, what went over a link in order (sends and receives in one list), the children started and
-//! awaited, and what a link had sent when a wait began. `HasCause` (`specs/Cause.antt`) ties each answer that
+//! and those that were sent, what came of all that a link was asked for in order (sends, also those that failed, and receives in one
+//! list), the children started and awaited, and what a link had sent when a wait began. `HasCause` (`specs/Cause.antt`) ties each answer that
 //! reports a failure to its count: a call that failed was counted (or the count stands at its type's end), and any
 //! other left the count as it was. `Adds` and its kin (`specs/Observed.antt`) say what a call adds to the content as far as
 //! it is told.

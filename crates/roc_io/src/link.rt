@@ -1,7 +1,7 @@
 // Where a node's datagrams come from and go to.
 ghost use Rattle.std.specs.Prelude.{◌≡◌, ℕ, ◌-◌, ◌<◌, ◌≤◌, List, [], ◌∷◌, map, Option};
 ghost use Rattle.roc_io.specs.Cause.{HasCause, last_count};
-ghost use Rattle.roc_io.specs.Link.{bind_failed, send_failed, receive_failed, Receives, reception, LinkEvent, sending, receiving, AddsEvents};
+ghost use Rattle.roc_io.specs.Link.{bind_failed, send_failed, send_event, receive_failed, Receives, reception, LinkEvent, sending, receiving, AddsEvents};
 ghost use Rattle.roc_io.specs.Observed.{Adds, AddsUnless, AddsAllBut};
 ghost use Rattle.roc_io.specs.Packet.{Packet};
 ghost use Rattle.roc_io.specs.declared.link.Addr.{Addr};
@@ -70,7 +70,8 @@ pub trait Link {
     /// The datagrams taken so far for sending, in order, where they are told.
     ghost sent: { Self → Option (List Packet) };
 
-    /// What went over the link so far, in order, where it is told: each datagram taken for sending, and what each receive gave.
+    /// What the link was asked for so far, in order, and what came of it, where it is told: each datagram that was to be sent, as taken or as
+    /// lost, and what each receive gave.
     ghost events: { Self → Option (List LinkEvent) };
 
     /// Binds the link to an address of its own.
@@ -89,7 +90,7 @@ pub trait Link {
         ensures bound { bound self.new ≡ bound self.old }
         ensures arrivals { arrivals self.new ≡ arrivals self.old }
         ensures sent { AddsUnless (send_failed result) (sent self.old) (sent self.new) (record { address = to; bytes = bytes.now }) }
-        ensures events { AddsUnless (send_failed result) (events self.old) (events self.new) (sending (record { address = to; bytes = bytes.now })) };
+        ensures events { Adds (events self.old) (events self.new) (send_event (send_failed result) (record { address = to; bytes = bytes.now }) ∷ []) };
 
     /// Receives one datagram into a buffer, which is cleared first. Any other answer leaves the buffer empty.
     fn receive(&mut self, into: &mut Vec<u8>) -> Arrival
@@ -117,7 +118,7 @@ pub fn send_all<L: Link>(link: &mut L, datagrams: &[Datagram])
     ensures faults { L.faults link.new ≡ L.faults link.old }
     ensures bound { L.bound link.new ≡ L.bound link.old }
     ensures arrivals { L.arrivals link.new ≡ L.arrivals link.old }
-    ensures events { AddsEvents (L.lost link.old) (L.lost link.new) (L.events link.old) (L.events link.new) (map sending datagrams.now) }
+    ensures events { AddsEvents (L.lost link.old) (L.lost link.new) (L.sent link.old) (L.sent link.new) (L.events link.old) (L.events link.new) (map sending datagrams.now) }
 {
     for datagram in datagrams {
         link.send(datagram.address(), datagram.bytes());

@@ -2,7 +2,7 @@
 ghost use Rattle.std.specs.Prelude.{◌≡◌, [], ◌∷◌, Some, None, true, false, option_map};
 ghost use Rattle.roc_io_memory.specs.Calls.{calls_failing, next_fails, called};
 ghost use Rattle.roc_io.specs.Cause.{HasCause};
-ghost use Rattle.roc_io.specs.Link.{bind_failed, send_failed, receive_failed, Receives, reception, sending, receiving};
+ghost use Rattle.roc_io.specs.Link.{bind_failed, send_failed, send_event, receive_failed, Receives, reception, receiving};
 ghost use Rattle.roc_io_memory.specs.Link.{unused};
 ghost use Rattle.roc_io.specs.Observed.{Adds, AddsUnless};
 
@@ -110,15 +110,16 @@ impl Link for MemLink {
         ensures bound { self.new.traffic.bound ≡ self.old.traffic.bound }
         ensures arrivals { Some self.new.traffic.arrivals ≡ Some self.old.traffic.arrivals }
         ensures sent { AddsUnless (send_failed result) self.old.traffic.sent self.new.traffic.sent (record { address = to; bytes = bytes.now }) }
-        ensures events { AddsUnless (send_failed result) self.old.traffic.events self.new.traffic.events (sending (record { address = to; bytes = bytes.now })) }
+        ensures events { Adds self.old.traffic.events self.new.traffic.events (send_event (send_failed result) (record { address = to; bytes = bytes.now }) ∷ []) }
         ensures failed { send_failed result ≡ next_fails false self.old.sends }
         ensures calls { self.new.calls ≡ self.old.calls }
         ensures sends { self.new.sends ≡ called false self.old.sends }
     {
         if self.sends.next_fails(false) {
+            self.traffic.send(true, to, bytes);
             Sent::Failed
         } else {
-            self.traffic.send(to, bytes);
+            self.traffic.send(false, to, bytes);
             Sent::Ok
         }
     }
@@ -228,10 +229,10 @@ impl Link for CalmLink {
         ensures bound { self.new.bound ≡ self.old.bound }
         ensures arrivals { Some self.new.arrivals ≡ Some self.old.arrivals }
         ensures sent { AddsUnless (send_failed result) self.old.sent self.new.sent (record { address = to; bytes = bytes.now }) }
-        ensures events { AddsUnless (send_failed result) self.old.events self.new.events (sending (record { address = to; bytes = bytes.now })) }
+        ensures events { Adds self.old.events self.new.events (send_event (send_failed result) (record { address = to; bytes = bytes.now }) ∷ []) }
         ensures never_fails { result ≡ Sent.Ok }
     {
-        self.traffic.send(to, bytes);
+        self.traffic.send(false, to, bytes);
         Sent::Ok
     }
 

@@ -6,7 +6,7 @@ use Rattle.roc_io.specs.Cause.{last_count}
 use Rattle.roc_io.specs.Link.{Receives, reception, HearsTold, LinkEvent, sending, receiving, sends_of, receives_of, AddsEvents}
 use Rattle.roc_io.specs.Packet.{Packet}
 use Rattle.roc_io.specs.Observed.{Adds, AddsAllBut}
-use Rattle.roc_io.proofs.Events.{AddsEvents-none, AddsEvents-trans, AddsEvents-whole, receives_of-append, receives_of-sends, sends_of-append, sends_of-sends}
+use Rattle.roc_io.proofs.Events.{AddsEvents-none, AddsEvents-receive, AddsEvents-trans, receives_of-append, receives_of-sends, sends_of-append, sends_of-sends}
 use Rattle.roc_io.proofs.Hearing.{HearsTold-nil, HearsTold-trans, hears_one}
 use Rattle.roc_io.proofs.Links.{AddsAllBut-trans}
 use Rattle.roc_io.proofs.Told.{Adds-nil}
@@ -25,7 +25,7 @@ Moves-trans a b c xs ys p q =
           let count : b.lost - a.lost + (c.lost - b.lost) ≡ c.lost - a.lost = omega arith in
           subst (λ l. AddsAllBut (c.lost - a.lost) a.sent c.sent l) (sym (sends_of-append xs ys))
           (subst (λ n. AddsAllBut n a.sent c.sent (sends_of xs ++ sends_of ys)) count both);
-      events = AddsEvents-trans a.lost b.lost c.lost a.events b.events c.events xs ys first second p.events q.events;
+      events = AddsEvents-trans a.lost b.lost c.lost a.sent b.sent c.sent a.events b.events c.events xs ys first second p.events q.events;
     }
 
 -- nothing was sent
@@ -39,7 +39,7 @@ Moves-one a b answer into arrivals sent lost events = record {
   arrivals = hears_one answer a.arrivals b.arrivals into arrivals;
   lost = omega arith;
   sent = λ below. still (b.lost - a.lost) a.sent b.sent sent;
-  events = subst (λ n. AddsEvents a.lost n a.events b.events (receiving (reception answer into) ∷ [])) (sym lost) (AddsEvents-whole a.lost a.events b.events _ events);
+  events = AddsEvents-receive a.lost b.lost a.sent b.sent a.events b.events (reception answer into) sent events;
 }
 
 -- nothing was received and nothing sent
@@ -48,12 +48,13 @@ Moves-none a b arrivals sent lost events = record {
   arrivals = subst (HearsTold [] a.arrivals) (sym arrivals) (HearsTold-nil a.arrivals);
   lost = omega arith;
   sent = λ below. still (b.lost - a.lost) a.sent b.sent sent;
-  events = subst (λ n. AddsEvents a.lost n a.events b.events []) (sym lost) (subst (λ o. AddsEvents a.lost a.lost a.events o []) (sym events) (AddsEvents-none a.lost a.events));
+  events = AddsEvents-none a.lost b.lost a.sent b.sent a.events b.events sent events;
 }
 
 -- nothing was received, and these were sent
 pub Moves-given : (a b : LinkView) (given : List Packet) → b.arrivals ≡ a.arrivals → a.lost ≤ b.lost
-    → (b.lost < last_count → AddsAllBut (b.lost - a.lost) a.sent b.sent given) → AddsEvents a.lost b.lost a.events b.events (map sending given) → Moves a b (map sending given)
+    → (b.lost < last_count → AddsAllBut (b.lost - a.lost) a.sent b.sent given) → AddsEvents a.lost b.lost a.sent b.sent a.events b.events (map sending given)
+    → Moves a b (map sending given)
 Moves-given a b given arrivals lost sent events = record {
   arrivals = subst (λ l. HearsTold l a.arrivals b.arrivals) (sym (receives_of-sends given)) (subst (HearsTold [] a.arrivals) (sym arrivals) (HearsTold-nil a.arrivals));
   lost = lost;

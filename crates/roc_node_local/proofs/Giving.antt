@@ -3,8 +3,8 @@ use Rattle.std.proofs.Common.{◌≡◌, ℕ, ◌+◌, ◌<◌, Bool, List, [], 
 use Rattle.std.proofs.lemmas.List.{map-append, take_more, flat_map_more, replicate_more}
 use Rattle.roc_io.specs.Call.{LinkView}
 use Rattle.roc_io.specs.Cause.{HasCause}
-use Rattle.roc_io.specs.Link.{sending}
-use Rattle.roc_io.specs.Observed.{AddsUnless}
+use Rattle.roc_io.specs.Link.{sending, send_event}
+use Rattle.roc_io.specs.Observed.{Adds, AddsUnless}
 use Rattle.roc_io.specs.Packet.{Packet}
 use Rattle.roc_io.specs.declared.link.Addr.{Addr}
 use Rattle.roc_io.proofs.Causes.{never_falls}
@@ -19,14 +19,14 @@ given_behind : (a b c : LinkView) (xs ys : List Packet) → Moves a b (map sendi
 given_behind a b c xs ys p q = subst (Moves a c) (sym (map-append sending xs ys)) (Moves-trans a b c (map sending xs) (map sending ys) p q)
 
 one : (failed : Bool) (a b : LinkView) (x : Packet) → b.arrivals ≡ a.arrivals → HasCause failed a.lost b.lost → AddsUnless failed a.sent b.sent x
-    → AddsUnless failed a.events b.events (sending x) → Moves a b (map sending (x ∷ []))
+    → Adds a.events b.events (send_event failed x ∷ []) → Moves a b (map sending (x ∷ []))
 one failed a b x arrivals cause adds events =
     Moves-given a b (x ∷ []) arrivals (never_falls failed a.lost b.lost cause) (λ below. AddsAllBut-one failed a.lost b.lost a.sent b.sent x cause below adds)
-    (AddsEvents-send failed a.lost b.lost a.events b.events x cause events)
+    (AddsEvents-send failed a.lost b.lost a.sent b.sent a.events b.events x cause adds events)
 
 -- one datagram more of the same
 pub same_again : (failed : Bool) (n : ℕ) (a b c : LinkView) (x : Packet) → Moves a b (map sending (replicate n x)) → c.arrivals ≡ b.arrivals → HasCause failed b.lost c.lost
-    → AddsUnless failed b.sent c.sent x → AddsUnless failed b.events c.events (sending x) → Moves a c (map sending (replicate (n + 1) x))
+    → AddsUnless failed b.sent c.sent x → Adds b.events c.events (send_event failed x ∷ []) → Moves a c (map sending (replicate (n + 1) x))
 same_again failed n a b c x so_far arrivals cause adds events =
     subst (λ (l : List Packet). Moves a c (map sending l)) (replicate_more n x) (given_behind a b c (replicate n x) (x ∷ []) so_far (one failed b c x arrivals cause adds events))
 

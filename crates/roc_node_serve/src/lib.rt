@@ -9,11 +9,12 @@
 //! of the core. It begins with the first state of the core, or with what the journal gave and one tick.
 //!
 //! The layers above may rely on these definitions. A fault of link, sink, disk or book comes only if its count rose, and no other
-//! end if a count did; a turn is one receive, and the link took the node's datagrams in order, those of a turn behind
-//! its receive and before the next one, all but at most as many as its `lost` rose by. What leaves a record is in the journal
-//! before anything is sent for it, and the lines of an event are in the book before that. What arrived and was sent is spoken of as
-//! far as the link tells it, what was written as far as the sink does, what the journal holds as far as the disk does, and what
-//! the log has as far as the book does. `specs/Inner/` is of this crate alone.
+//! end if a count did; a turn is one receive, and the link was given the node's datagrams in order, those of a turn behind
+//! its receive and before the next one. It took all but at most as many as its `lost` rose by, and its events tell at its place
+//! each that it lost. What leaves a record is in the journal before anything is sent for it, and the lines of an event are in the
+//! book before that. What arrived and was sent is spoken of as far as the link tells it, what was written as far as the sink does,
+//! what the journal holds as far as the disk does, and what the log has as far as the book does. `specs/Inner/` is of this crate
+//! alone.
 #![tactic(auto)]
 
 mod ends;

@@ -1,6 +1,6 @@
-// What went over a link in memory: a datagram that was sent, or what a receive gave.
+// What a link in memory was asked for: a datagram that it took or lost, or what a receive gave.
 ghost use Rattle.std.specs.Prelude.{◌≡◌, IfOk};
-ghost use Rattle.roc_io.specs.Link.{sending, receiving, vain, reception};
+ghost use Rattle.roc_io.specs.Link.{send_event, receiving, vain, reception};
 
 use roc_io::{Addr, Arrival, Datagram};
 use std::alloc::{AllocError, Global};
@@ -11,6 +11,8 @@ use std::marker::Model;
 pub enum Kind {
     /// A datagram was taken for sending.
     Sent(Datagram),
+    /// A datagram was not taken.
+    Lost(Datagram),
     /// A receive gave a datagram.
     Came(Datagram),
     /// A receive gave nothing, since none was left.
@@ -35,13 +37,17 @@ impl Model for Passed {
 }
 
 impl Passed {
-    /// A send of a copy of these bytes.
-    pub fn sent(alloc: Global, to: Addr, bytes: &[u8]) -> Result<Self, AllocError>
-        ensures { IfOk result (λ passed. passed ≡ sending (record { address = to; bytes = bytes.now })) }
+    /// A send of a copy of these bytes, which failed or did not.
+    pub fn sent(alloc: Global, failed: bool, to: Addr, bytes: &[u8]) -> Result<Self, AllocError>
+        ensures { IfOk result (λ passed. passed ≡ send_event failed (record { address = to; bytes = bytes.now })) }
     {
-        Ok(Passed {
-            kind: Kind::Sent(Datagram::copied(alloc, to, bytes)?),
-        })
+        let datagram = Datagram::copied(alloc, to, bytes)?;
+        let kind = if failed {
+            Kind::Lost(datagram)
+        } else {
+            Kind::Sent(datagram)
+        };
+        Ok(Passed { kind })
     }
 
     /// A receive that answered this, with a copy of the bytes that it gave.

@@ -1,7 +1,7 @@
 // What a link in memory keeps: the addresses bound, the arrivals left, the datagrams sent, and its sends and receives in one order.
 ghost use Rattle.std.specs.Prelude.{◌≡◌, ◌≤◌, [], ◌∷◌, Some, false, option_map};
-ghost use Rattle.roc_io.specs.Link.{receive_failed, Receives, reception, sending, receiving, vain};
-ghost use Rattle.roc_io.specs.Observed.{Adds};
+ghost use Rattle.roc_io.specs.Link.{receive_failed, Receives, reception, send_event, receiving, vain};
+ghost use Rattle.roc_io.specs.Observed.{Adds, AddsUnless};
 ghost use Rattle.roc_io_memory.specs.Link.{unused};
 
 use super::passed::Passed;
@@ -118,15 +118,18 @@ impl Traffic {
         self.bound.push(addr);
     }
 
-    pub fn send(&mut self, to: Addr, bytes: &[u8])
+    /// A send failed or did not.
+    pub fn send(&mut self, failed: bool, to: Addr, bytes: &[u8])
         ensures bound { self.new.bound ≡ self.old.bound }
         ensures arrivals { self.new.arrivals ≡ self.old.arrivals }
-        ensures sent { Adds self.old.sent self.new.sent (record { address = to; bytes = bytes.now } ∷ []) }
-        ensures events { Adds self.old.events self.new.events (sending (record { address = to; bytes = bytes.now }) ∷ []) }
+        ensures sent { AddsUnless failed self.old.sent self.new.sent (record { address = to; bytes = bytes.now }) }
+        ensures events { Adds self.old.events self.new.events (send_event failed (record { address = to; bytes = bytes.now }) ∷ []) }
     {
-        let datagram = Datagram::copied(self.alloc, to, bytes);
-        self.sent.push_made(datagram);
-        let passed = Passed::sent(self.alloc, to, bytes);
+        if !failed {
+            let datagram = Datagram::copied(self.alloc, to, bytes);
+            self.sent.push_made(datagram);
+        }
+        let passed = Passed::sent(self.alloc, failed, to, bytes);
         self.events.push_made(passed);
     }
 

@@ -17,7 +17,8 @@ loop-datagram-preserved g c =
       c.send.ensures.faults ∙ so_far.2,
       c.send.ensures.bound ∙ so_far.3,
       c.send.ensures.arrivals ∙ so_far.4,
-      AddsEvents-next (send_failed c.send.result) _ _ _ _ _ _ c.args.datagrams.now _ c.datagram-item.result
+      AddsEvents-next (send_failed c.send.result) _ _ _ _ _ _ _ _ _ c.args.datagrams.now _ c.datagram-item.result
           c.loop-datagram-test.true c.datagram-item.is so_far.5 c.send.ensures.cause so_far.1
+          (rw (c.address.ensures, c.bytes.ensures) at c.send.ensures.sent)
           (rw (c.address.ensures, c.bytes.ensures) at c.send.ensures.events),
     )

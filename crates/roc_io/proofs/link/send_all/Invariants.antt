@@ -13,4 +13,4 @@ invariant-loop-datagram g l =
     × (L.faults l.link ≡ L.faults l.fn.link)
     × (L.bound l.link ≡ L.bound l.fn.link)
     × (L.arrivals l.link ≡ L.arrivals l.fn.link)
-    × AddsEvents (L.lost l.fn.link) (L.lost l.link) (L.events l.fn.link) (L.events l.link) (map sending (take l.datagram-index l.datagrams))
+    × AddsEvents (L.lost l.fn.link) (L.lost l.link) (L.sent l.fn.link) (L.sent l.link) (L.events l.fn.link) (L.events l.link) (map sending (take l.datagram-index l.datagrams))
