@@ -14,7 +14,6 @@ pub mod laws;
 mod line;
 mod log;
 mod node_line;
-mod number;
 mod parts;
 mod reading;
 mod spellable;

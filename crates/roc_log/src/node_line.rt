@@ -11,9 +11,9 @@ ghost use Rattle.roc_log.specs.Reading.{named_node, or_there, or_unseen, first_l
 ghost use Rattle.roc_log.specs.Inner.Given.{Gives, views};
 
 use crate::fault::{LineFault, What};
-use crate::number::{is_word, node_number};
 use crate::parts::parts_of;
 use roc_base::{Node, Shard};
+use roc_sched::{is_word, node_number};
 use std::alloc::Global;
 
 /// How many coordinators there are.

@@ -13,10 +13,10 @@ use crate::call::call_of;
 use crate::datagram::one_datagram;
 use crate::fault::{LineFault, LogFault, What};
 use crate::line::LogLine;
-use crate::number::{integer_of, is_name, is_word, number_up_to};
 use crate::parts::parts_of;
 use roc_base::{Node, Nums, TxnId};
 use roc_program::Workload;
+use roc_sched::{integer_of, is_name, is_word, number_up_to};
 use roc_sequence::Sequence;
 use std::alloc::Global;
 

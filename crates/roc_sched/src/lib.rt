@@ -7,7 +7,8 @@
 //! `docs/FORMATS.md` ("Schedule" and "Requests"). A caller tells which of the further forms it takes ([`Forms`]): any other line of these
 //! is none. By [`laws`] a text has one list of lines or one first fault, and not
 //! both; its nodes are there and its numbers within their bounds (`specs/Fits.antt`); and names are those of the
-//! language of workloads. `specs/Inner/` is of this crate alone.
+//! language of workloads. The words of other texts that have such numbers and names are read by the same calls ([`number_up_to`],
+//! [`integer_of`], [`node_number`], [`is_name`], [`is_word`]). `specs/Inner/` is of this crate alone.
 #![tactic(auto)]
 
 mod act;
@@ -25,4 +26,5 @@ pub use fault::{TextFault, What};
 pub use forms::Forms;
 pub use line::{Act, Line, Request};
 pub use name::ProcedureName;
+pub use number::{integer_of, is_name, is_word, node_number, number_up_to};
 pub use schedule::{parse_requests, parse_schedule};

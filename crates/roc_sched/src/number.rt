@@ -51,8 +51,8 @@ fn digits_of(word: &[u8], greatest: u64) -> Option<u64>
     Some(value)
 }
 
-/// A number in decimal digits without a leading zero, up to a greatest one.
-pub(crate) fn number_up_to(word: &[u8], greatest: u64) -> Option<u64>
+/// A number in decimal digits without a leading zero, up to a greatest one; `None` where a word is no such number. Takes no memory.
+pub fn number_up_to(word: &[u8], greatest: u64) -> Option<u64>
     ensures value { result ≡ number_up_to greatest word.now }
     ensures fits { IfSome result (λ n. n ≤ greatest) }
 {
@@ -81,9 +81,9 @@ fn not_negative(digits: &[u8]) -> Option<i64>
     }
 }
 
-/// An integer of 64 bits, with a `-` directly before its digits where it is negative.
+/// An integer of 64 bits, with a `-` directly before its digits where it is negative; `None` where a word is none. Takes no memory.
 #[tactic(auto, unfolding(crate::specs::Numbers::integer_of))]
-pub(crate) fn integer_of(word: &[u8]) -> Option<i64>
+pub fn integer_of(word: &[u8]) -> Option<i64>
     ensures { result ≡ integer_of word.now }
 {
     match word.split_first() {
@@ -98,8 +98,8 @@ pub(crate) fn integer_of(word: &[u8]) -> Option<i64>
     }
 }
 
-/// The number of a node, whether it is there or not.
-pub(crate) fn node_number(word: &[u8]) -> Option<u64>
+/// The number of a node, whether it is there or not: one of at most 63 bits. `None` where a word is none. Takes no memory.
+pub fn node_number(word: &[u8]) -> Option<u64>
     ensures { result ≡ node_number word.now }
 {
     number_up_to(word, (1 << 63) - 1)
@@ -126,8 +126,8 @@ pub(crate) fn message_of(word: &[u8]) -> Option<u64>
     }
 }
 
-/// Whether a word is this one.
-pub(crate) fn is_word(word: &[u8], wanted: &str) -> bool
+/// Whether a word is this one, byte for byte.
+pub fn is_word(word: &[u8], wanted: &str) -> bool
     ensures { result ≡ bytes_eq word.now wanted.now }
 {
     word == wanted.as_bytes()
@@ -160,9 +160,9 @@ fn are_word_bytes(bytes: &[u8]) -> bool
         .all(|b| b.is_ascii_alphanumeric() || *b == b'_')
 }
 
-/// Whether a word is a name of the language of workloads.
+/// Whether a word is a name of the language of workloads (`docs/LANGUAGE.md`, "Tokens"): of at most 32 bytes, and not reserved. Takes no memory.
 #[tactic(auto, unfolding(crate::specs::Numbers::is_name))]
-pub(crate) fn is_name(word: &[u8]) -> bool
+pub fn is_name(word: &[u8]) -> bool
     ensures { result ≡ is_name word.now }
 {
     match word.split_first() {
