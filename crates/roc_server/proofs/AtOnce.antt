@@ -31,9 +31,9 @@ comes_at_once plan s msg f e = refl
 
 module _ (plan : Plan) (shard : Shard) (k : ServerData) (sound : IsConsistent k) (msg : Msg) (kind : needs_room msg ≡ false) where
   abbrev nothing : Findings
-  nothing = record { before = k.decided.ids; reached = []; components = [] }
+  nothing = record { before = k.table.decided; reached = []; components = [] }
 
-  decided : AreDecided k.links k.decided.ids
+  decided : AreDecided k.table.links k.table.decided
   decided = record { rising = sound.right.decided_rising; sound = sound.right.decided_only; complete = sound.right.decided_all }
 
   found : AreFindings plan (state_of shard k) msg nothing
@@ -47,7 +47,7 @@ module _ (plan : Plan) (shard : Shard) (k : ServerData) (sound : IsConsistent k)
       none_found (Ended coord mark) e = absurd (false≢true (sym e))
       none_found (Settled id mark) e = absurd (false≢true (sym e))
       none_found (Read id round proc group args) e = absurd (false≢true (sym e))
-      none_found m e = record { before = decided; reached = nothing_led k.links; components = nothing_new k.links }
+      none_found m e = record { before = decided; reached = nothing_led k.table.links; components = nothing_new k.table.links }
 
   pub handles_at_once : Handles plan (state_of shard k) msg (at_once (state_of shard k))
   handles_at_once = record { findings = nothing; found = found; is = comes_at_once plan (state_of shard k) msg nothing kind }
@@ -58,6 +58,6 @@ module _ (plan : Plan) (shard : Shard) (k : ServerData) (sound : IsConsistent k)
     at_once (state_of shard k),
     record { viewing = v; sends = [] },
     handles_at_once,
-    record { decided = k.decided.ids; found = decided; is = refl },
+    record { decided = k.table.decided; found = decided; is = refl },
     record { answers = is; keeps = refl; views = refl; sends = sym (append-nil out.messages); decides = sym (append-nil out.decided); ran = sym (append-nil out.ran) },
   )

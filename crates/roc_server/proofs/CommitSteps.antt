@@ -57,20 +57,20 @@ module _ (plan : Plan) (shard : Shard) (old : ServerData) (before : Collected) (
 
   -- what is followed behind these lists, unless they are refused
   abbrev behind : List KnownList → Option Handled → List KnownList
-  behind lists f = old.links ++ links_of s (unless_refused f lists)
+  behind lists f = old.table.links ++ links_of s (unless_refused f lists)
 
   module _ (facts : List KnownList) where
     abbrev refusal : Option Handled
     refusal = commit_refusal s id edges facts
 
     abbrev lists : List KnownList
-    lists = unknown_of old.known (carried id edges facts)
+    lists = unknown_of old.table.known (carried id edges facts)
 
     pub commit_refused : (answer : Handled) → refusal ≡ Some answer → Commits plan shard old s before before id edges facts answer
     commit_refused answer e =
-        let P : Option Handled → Type 0 = λ f. AreNewTaken (IsDecided old.links) (behind lists f) [] in
-        let Q : Option Handled → Type 0 = λ f. ShowsStep (after_commit plan old.decided.ids [] s id edges facts f) answer s before before in
-        record { components = []; are_new = subst P (sym e) (nothing_new old.links); shown = subst Q (sym e) (refused_shown answer); groups = λ p h. h }
+        let P : Option Handled → Type 0 = λ f. AreNewTaken (IsDecided old.table.links) (behind lists f) [] in
+        let Q : Option Handled → Type 0 = λ f. ShowsStep (after_commit plan old.table.decided [] s id edges facts f) answer s before before in
+        record { components = []; are_new = subst P (sym e) (nothing_new old.table.links); shown = subst Q (sym e) (refused_shown answer); groups = λ p h. h }
 
     -- its commitok ends the step, where its transaction was decided before
     own_if : (b : Bool) (r : ServerStep) → own_again plan r.state.shard r.state.started (cond b (Some id) None) ≡ cond b (commitok_of plan r.state id ∷ []) []
@@ -78,16 +78,16 @@ module _ (plan : Plan) (shard : Shard) (old : ServerData) (before : Collected) (
     own_if false r = refl
 
     pub commit_taught : (state : ServerState) (after : Collected) (news : List KnownList) (again : Option TxnId) (answer : Handled) → refusal ≡ None → news ≡ lists
-        → again ≡ cond (is_listed is_txn old.decided.ids id) (Some id) None
+        → again ≡ cond (is_listed is_txn old.table.decided id) (Some id) None
         → Teaches plan shard old state before after news again answer → Commits plan shard old state before after id edges facts answer
     commit_taught state after news again answer none is own t =
-        let decided : Bool = is_listed is_txn old.decided.ids id in
+        let decided : Bool = is_listed is_txn old.table.decided id in
         let u : Teaches plan shard old state before after lists (cond decided (Some id) None) answer =
         subst (λ a. Teaches plan shard old state before after lists a answer) own (subst (λ ks. Teaches plan shard old state before after ks again answer) is t) in
         let step : ServerStep = taught plan s lists u.components in
-        let ends : with_own plan (cond decided (Some id) None) step ≡ commit_taken plan old.decided.ids s id step = λ i. record step { sends = step.sends ++ own_if decided step i } in
-        let P : Option Handled → Type 0 = λ f. AreNewTaken (IsDecided old.links) (behind lists f) u.components in
-        let Q : Option Handled → Type 0 = λ f. ShowsStep (after_commit plan old.decided.ids u.components s id edges facts f) answer state before after in
+        let ends : with_own plan (cond decided (Some id) None) step ≡ commit_taken plan old.table.decided s id step = λ i. record step { sends = step.sends ++ own_if decided step i } in
+        let P : Option Handled → Type 0 = λ f. AreNewTaken (IsDecided old.table.links) (behind lists f) u.components in
+        let Q : Option Handled → Type 0 = λ f. ShowsStep (after_commit plan old.table.decided u.components s id edges facts f) answer state before after in
         record {
           components = u.components;
           are_new = subst P (sym none) u.are_new;
@@ -99,13 +99,13 @@ module _ (plan : Plan) (shard : Shard) (old : ServerData) (before : Collected) (
   known_why = known_refusal s id edges
 
   abbrev one : List KnownList
-  one = unknown_of old.known (list_with id edges ∷ [])
+  one = unknown_of old.table.known (list_with id edges ∷ [])
 
   pub known_refused : (answer : Handled) → known_why ≡ Some answer → Knows plan shard old s before before id edges answer
   known_refused answer e =
-      let P : Option Handled → Type 0 = λ f. AreNewTaken (IsDecided old.links) (behind one f) [] in
+      let P : Option Handled → Type 0 = λ f. AreNewTaken (IsDecided old.table.links) (behind one f) [] in
       let Q : Option Handled → Type 0 = λ f. ShowsStep (after_known plan [] s id edges f) answer s before before in
-      record { components = []; are_new = subst P (sym e) (nothing_new old.links); shown = subst Q (sym e) (refused_shown answer); groups = λ p h. h }
+      record { components = []; are_new = subst P (sym e) (nothing_new old.table.links); shown = subst Q (sym e) (refused_shown answer); groups = λ p h. h }
 
   pub known_taught : (state : ServerState) (after : Collected) (news : List KnownList) (answer : Handled) → known_why ≡ None → news ≡ one → Teaches plan shard old state before after news None answer
       → Knows plan shard old state before after id edges answer
@@ -113,7 +113,7 @@ module _ (plan : Plan) (shard : Shard) (old : ServerData) (before : Collected) (
       let u : Teaches plan shard old state before after one None answer = subst (λ ks. Teaches plan shard old state before after ks None answer) is t in
       let step : ServerStep = taught plan s one u.components in
       let ends : with_own plan None step ≡ step = λ i. record step { sends = append-nil step.sends i } in
-      let P : Option Handled → Type 0 = λ f. AreNewTaken (IsDecided old.links) (behind one f) u.components in
+      let P : Option Handled → Type 0 = λ f. AreNewTaken (IsDecided old.table.links) (behind one f) u.components in
       let Q : Option Handled → Type 0 = λ f. ShowsStep (after_known plan u.components s id edges f) answer state before after in
       record {
         components = u.components;

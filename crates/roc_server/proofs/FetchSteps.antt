@@ -33,29 +33,29 @@ module _ (shard : Shard) (k : ServerData) (id : TxnId) (asker : Shard) where
   ended = is_ended k.marks id
 
   -- of one that is not here
-  absent : (b : Bool) (answer : Handled) (before after : Collected) → answer ≡ (if b then Done else Ignored NotHere) → HasSent before after (if b then settled_to s id asker ∷ [] else []) → ShowsStep (step false b (list_of id k.known)) answer s before after
+  absent : (b : Bool) (answer : Handled) (before after : Collected) → answer ≡ (if b then Done else Ignored NotHere) → HasSent before after (if b then settled_to s id asker ∷ [] else []) → ShowsStep (step false b (list_of id k.table.known)) answer s before after
   absent true answer before after is sent = record { answers = sym is; keeps = refl; sends = sent.0; decides = sent.1 ∙ sym (append-nil before.decided); ran = sent.2 ∙ sym (append-nil before.ran) }
   absent false answer before after is sent = record { answers = sym is; keeps = refl; sends = sent.0; decides = sent.1 ∙ sym (append-nil before.decided); ran = sent.2 ∙ sym (append-nil before.ran) }
 
   pub fetch_absent : (answer : Handled) (before after : Collected) → is_here id k.started.groups ≡ false → answer ≡ (if ended then Done else Ignored NotHere) → HasSent before after (if ended then settled_to s id asker ∷ [] else [])
       → ShowsStep (after_fetch s id asker) answer s before after
   fetch_absent answer before after away is sent =
-      let P : Bool → Type 0 = λ here. ShowsStep (step here ended (list_of id k.known)) answer s before after in
+      let P : Bool → Type 0 = λ here. ShowsStep (step here ended (list_of id k.table.known)) answer s before after in
       subst P (sym away) (absent ended answer before after is sent)
 
   module _ (here : is_here id k.started.groups ≡ true) where
-    found : (list : Option (List Dependency)) (new : ServerState) (before after : Collected) → list ≡ list_of id k.known → ShowsStep (step true ended list) Done new before after → ShowsStep (after_fetch s id asker) Done new before after
+    found : (list : Option (List Dependency)) (new : ServerState) (before after : Collected) → list ≡ list_of id k.table.known → ShowsStep (step true ended list) Done new before after → ShowsStep (after_fetch s id asker) Done new before after
     found list new before after e shown =
-        let P : Bool → Type 0 = λ b. ShowsStep (step b ended (list_of id k.known)) Done new before after in
+        let P : Bool → Type 0 = λ b. ShowsStep (step b ended (list_of id k.table.known)) Done new before after in
         let Q : Option (List Dependency) → Type 0 = λ o. ShowsStep (step true ended o) Done new before after in
         subst P (sym here) (subst Q e shown)
 
-    pub fetch_told : (edges : List Dependency) (before after : Collected) → Some edges ≡ list_of id k.known → HasSent before after (known_to (list_with id edges) (record { id = id; shard = asker }) ∷ []) → ShowsStep (after_fetch s id asker) Done s before after
+    pub fetch_told : (edges : List Dependency) (before after : Collected) → Some edges ≡ list_of id k.table.known → HasSent before after (known_to (list_with id edges) (record { id = id; shard = asker }) ∷ []) → ShowsStep (after_fetch s id asker) Done s before after
     fetch_told edges before after e sent =
         found (Some edges) s before after e (record { answers = refl; keeps = refl; sends = sent.0; decides = sent.1 ∙ sym (append-nil before.decided); ran = sent.2 ∙ sym (append-nil before.ran) })
 
     -- who asks is planned to wait, beside what has room
-    pub fetch_kept : (waits : Awaited) (out : Collected) → None ≡ list_of id k.known → waits.waiting ≡ k.waits.waiting
+    pub fetch_kept : (waits : Awaited) (out : Collected) → None ≡ list_of id k.table.known → waits.waiting ≡ k.waits.waiting
         → ShowsStep (after_fetch s id asker) Done (after shard (record k { waits = waits }) (Asker (record { id = id; shard = asker }))) out out
     fetch_kept waits out e kept =
         found None (after shard (record k { waits = waits }) (Asker (record { id = id; shard = asker }))) out out e

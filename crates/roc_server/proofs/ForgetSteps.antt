@@ -1,5 +1,5 @@
 -- What is over is forgotten
-use Rattle.std.proofs.Common.{◌≡◌, ◌&&◌, Bool, true, false, not, cond, if◌then◌else◌, List, [], ◌∷◌, Some, map, filter, refl, sym, ap, subst, ◌∙◌}
+use Rattle.std.proofs.Common.{◌≡◌, ◌&&◌, Bool, true, false, not, cond, if◌then◌else◌, List, [], ◌∷◌, map, filter, refl, sym, ap, subst, ◌∙◌}
 use Rattle.std.proofs.lemmas.Bool.{false≢true, not-true, not_from_false}
 use Rattle.std.specs.List.{AllByRecursion}
 use Rattle.roc_sequence.specs.Lists.{Has}
@@ -11,7 +11,6 @@ use Rattle.roc_base.specs.declared.id.TxnId.{TxnId}
 use Rattle.roc_base.specs.declared.node.Shard.{Shard}
 use Rattle.roc_base.specs.TxnId.{is_txn}
 use Rattle.roc_base.specs.Edge.{Dependency}
-use Rattle.roc_await.specs.Lacks.{AreLacks}
 use Rattle.roc_step.specs.Waits.{Awaited, Waiting, was_asked_for, without_asked}
 use Rattle.roc_step.specs.declared.waits.OpenFetch.{OpenFetch}
 use Rattle.roc_depgraph.specs.declared.known.KnownList.{KnownList}
@@ -19,24 +18,21 @@ use Rattle.roc_depgraph.specs.Closure.{IsRisingListOf}
 use Rattle.roc_depgraph.specs.Deps.{is_known, IsDecided}
 use Rattle.roc_depgraph.proofs.Listed.{has_listed, listed_has}
 use Rattle.roc_rows.specs.declared.cell.Cell.{Cell}
-use Rattle.roc_server_ancestors.specs.Least.{AreRows, HeldRows}
-use Rattle.roc_server_lists.specs.Decided.{DecidedIds}
 use Rattle.roc_step.specs.Links.{all_entries, without_links, AreLinksOf}
 use Rattle.roc_server_lists.proofs.FollowedLinks.{links_left}
+use Rattle.roc_server_table.specs.Kept.{TableLists}
 use Rattle.roc_step.proofs.ForgottenLinks.{decided_left, known_left, left_decided, left_known}
-use Rattle.roc_server_lists.proofs.LacksLeft.{lacks_left}
 use Rattle.roc_step.proofs.WithoutLinks.{entries_left}
-use Rattle.roc_server.specs.declared.left.Left.{Left}
 use Rattle.roc_server.specs.declared.server_data.ServerData.{ServerData}
 use Rattle.roc_step.specs.declared.started.StartedGroup.{StartedGroup}
 use Rattle.roc_step.specs.Below.{is_ended}
 use Rattle.roc_step.specs.Forgets.{forget, is_over, over}
 use Rattle.roc_step.specs.Start.{uses_cell}
 use Rattle.roc_step.specs.State.{is_here}
-use Rattle.roc_server.specs.Inner.Forgetting.{Forgets, IsForgettable, IsOverOf}
+use Rattle.roc_server.specs.Inner.Forgetting.{Forgets, IsOverOf}
+use Rattle.roc_server.specs.Inner.Over.{TakenComponents}
 use Rattle.roc_server.specs.Inner.Indexed.{group_ref_of, group_refs_of, undecided}
 use Rattle.roc_server.specs.Inner.Keyed.{Entered}
-use Rattle.roc_server.specs.Inner.Left.{links_left as links_left_of, rows_behind, IsLeft, IsOver, TakenComponents}
 use Rattle.roc_server.specs.Inner.ServerData.{state_of, is_left, is_same_group, IsConsistent, IsRight}
 use Rattle.roc_server.proofs.IndexSteps.{filter_both}
 use Rattle.roc_server.proofs.SomeLeft.{any_some, members, member_all, member_some, members_once, none_of_others, not_in_two, once_some, some_member}
@@ -61,13 +57,9 @@ index_left forgotten before after were same c (e ∷ es) = go (forgotten e.id) r
         ∙ ap (λ u. undecided after (if u then group_ref_of e ∷ group_refs_of c some else group_refs_of c some)) (sym used)
     go false f false used ih = ih ∙ ap (λ u. undecided after (if u then group_ref_of e ∷ group_refs_of c some else group_refs_of c some)) (sym used)
 
--- ---- something is over
+-- ---- these are over
 
-module _ (was : ServerData) (left : Left) (right : IsRight was) (o : IsOver was.marks was.taken.components was.links (Some left)) (decided : DecidedIds)
-    (decided_are : IsRisingListOf (λ t. IsListed is_txn was.decided.ids t × (is_listed is_txn left.over.items t ≡ false)) decided.ids) where
-  abbrev gone : List TxnId
-  gone = left.over.items
-
+module _ (was : ServerData) (gone : List TxnId) (o : IsOverOf was gone) where
   abbrev components : List (List TxnId)
   components = was.taken.components
 
@@ -80,15 +72,16 @@ module _ (was : ServerData) (left : Left) (right : IsRight was) (o : IsOver was.
   abbrev stays : TxnId → Bool
   stays t = not (forgotten t)
 
-  rest : IsLeft was.links gone left
-  rest = subst (λ ids. IsLeft was.links ids left) (sym o.rest.over_is) o.rest
+  right : IsRight was
+  right = o.right
 
   are : IsRisingListOf (IsListed is_txn (over was.marks components)) gone
-  are = subst (IsRisingListOf (IsListed is_txn (over was.marks components))) (sym o.rest.over_is) o.are
+  are = o.over
 
   is_forgotten : (t : TxnId) → forgotten t ≡ is_listed is_txn (over was.marks components) t
   is_forgotten t =
-      same_tests (forgotten t) (is_listed is_txn (over was.marks components) t) (λ e. listed_test is_txn (over was.marks components) t (are.sound t (listed_true is_txn gone t e)))
+      same_tests (forgotten t) (is_listed is_txn (over was.marks components) t)
+      (λ e. listed_test is_txn (over was.marks components) t (are.sound t (listed_true is_txn gone t e)))
       (λ e. listed_test is_txn gone t (are.complete t (listed_true is_txn (over was.marks components) t e)))
 
   -- exactly the members of components that are over are forgotten
@@ -105,35 +98,30 @@ module _ (was : ServerData) (left : Left) (right : IsRight was) (o : IsOver was.
       go true e = let d = in_over t e in absurd (not_in_two passes components right.taken_once d.0 c t d.1 h d.2 k d.3 n)
       go false e = refl
 
-  -- they were decided, and are ended
-  was_decided : (t : TxnId) → forgotten t ≡ true → IsDecided was.links t
-  was_decided t e = right.decided_only t (right.taken_decided t (member_all passes components t (are.sound t (listed_true is_txn gone t e))))
+  -- they are decided, and are ended
+  pub over_decided : (t : TxnId) → IsListed is_txn gone t → IsListed is_txn was.table.decided t
+  over_decided t l = right.taken_decided t (member_all passes components t (are.sound t l))
+
+  were_listed : (t : TxnId) → forgotten t ≡ true → IsListed is_txn was.table.decided t
+  were_listed t e = over_decided t (listed_true is_txn gone t e)
+
+  were_decided : (t : TxnId) → forgotten t ≡ true → IsDecided was.table.links t
+  were_decided t e = right.decided_only t (were_listed t e)
 
   were_ended : (t : TxnId) → forgotten t ≡ true → is_ended was.marks t ≡ true
   were_ended t e = let c = in_over t e in every_has (is_ended was.marks) c.0 c.3 t c.2
 
+  -- ---- about all others nothing changes
+
+  -- what is followed of what stays
   abbrev left_links : List KnownList
-  left_links = links_left_of was.links gone
+  left_links = map (without_links forgotten) (filter (λ k. stays k.of) was.table.links)
 
-  -- about all others nothing changes
-  still_decided : (t : TxnId) → IsListed is_txn decided.ids t → IsDecided left.links t
-  still_decided t l =
-      let p = decided_are.sound t l in
-      subst (λ ks. IsDecided ks t) (sym rest.links_are) (decided_left forgotten was.links t (right.decided_only t p.0) p.1)
-
-  decided_still : (t : TxnId) → IsDecided left.links t → IsListed is_txn decided.ids t
-  decided_still t d =
-      let p = left_decided forgotten was.links was_decided t (subst (λ ks. IsDecided ks t) rest.links_are d) in
-      decided_are.complete t (right.decided_all t p.0, p.1)
-
-  same_decided : (t : TxnId) → forgotten t ≡ false → is_listed is_txn decided.ids t ≡ is_listed is_txn was.decided.ids t
-  same_decided t n =
-      same_tests (is_listed is_txn decided.ids t) (is_listed is_txn was.decided.ids t)
-      (λ e. listed_test is_txn was.decided.ids t (decided_are.sound t (listed_true is_txn decided.ids t e)).0)
-      (λ e. listed_test is_txn decided.ids t (decided_are.complete t (listed_true is_txn was.decided.ids t e, n)))
-
-  same_known : (t : TxnId) → forgotten t ≡ false → is_known left_links t ≡ is_known was.links t
-  same_known t n = same_tests (is_known left_links t) (is_known was.links t) (λ e. (known_left forgotten was.links t e).0) (λ e. left_known forgotten was.links t e n)
+  same_known : (t : TxnId) → forgotten t ≡ false → is_known left_links t ≡ is_known was.table.links t
+  same_known t n =
+      same_tests (is_known left_links t) (is_known was.table.links t)
+      (λ e. (known_left forgotten was.table.links t e).0)
+      (λ e. left_known forgotten was.table.links t e n)
 
   -- what is followed of what is left is known, here or asked for
   abbrev left_over : List KnownList → List StartedGroup → List OpenFetch → Dependency → Bool
@@ -149,23 +137,32 @@ module _ (was : ServerData) (left : Left) (right : IsRight was) (o : IsOver was.
   none_left_now = has_all (λ d. left_over left_links some_started some_asked d ≡ false) (all_entries left_links) one
     where
       lists : List KnownList
-      lists = filter (λ k. stays k.of) was.links
+      lists = filter (λ k. stays k.of) was.table.links
 
       one : (d : Dependency) → Has d (all_entries left_links) → left_over left_links some_started some_asked d ≡ false
       one d h =
           let p = from_has_filter (λ (x : Dependency). stays x.from) d (all_entries lists) (subst (Has d) (entries_left forgotten lists) h) in
           let k = from_has_flat_map (λ (k : KnownList). k.edges) d lists p.0 in
-          let named = has_flat_map (λ (k : KnownList). k.edges) d k.0 was.links (from_has_filter (λ (k : KnownList). stays k.of) k.0 was.links k.1).0 k.2 in
+          let named =
+          has_flat_map (λ (k : KnownList). k.edges) d k.0 was.table.links (from_has_filter (λ (k : KnownList). stays k.of) k.0 was.table.links k.1).0 k.2 in
           let n = not-true (forgotten d.from) p.1 in
-          (λ i. not (same_known d.from n i) && (not (any_some (λ (e : StartedGroup). e.id) forgotten d.from n was.started.groups i) && not (any_some (λ (a : OpenFetch). a.id) forgotten d.from n was.waits.waiting.asked i)))
-          ∙ all_has (λ d. is_left was d ≡ false) d (all_entries was.links) right.none_left named
+          let here = any_some (λ (e : StartedGroup). e.id) forgotten d.from n was.started.groups in
+          let asked = any_some (λ (a : OpenFetch). a.id) forgotten d.from n was.waits.waiting.asked in
+          (λ i. not (same_known d.from n i) && (not (here i) && not (asked i)))
+          ∙ all_has (λ d. is_left was d ≡ false) d (all_entries was.table.links) right.none_left named
 
   -- what is open of what is left is what was asked for and is unknown
-  open_now : filter (λ a. stays a.id) was.waits.fetches ≡ filter (λ (a : OpenFetch). not (is_known left_links a.id)) some_asked
+  abbrev unknown : List KnownList → OpenFetch → Bool
+  unknown ks a = not (is_known ks a.id)
+
+  abbrev both : OpenFetch → Bool
+  both a = stays a.id && unknown was.table.links a
+
+  open_now : filter (λ a. stays a.id) was.waits.fetches ≡ filter (unknown left_links) some_asked
   open_now =
       ap (filter (λ (a : OpenFetch). stays a.id)) right.open_unknown
-      ∙ filter_both (λ (a : OpenFetch). not (is_known was.links a.id)) (λ a. stays a.id) (λ a. stays a.id && not (is_known was.links a.id)) (λ a. swap (not (is_known was.links a.id)) (stays a.id)) was.waits.waiting.asked
-      ∙ sym (filter_both (λ (a : OpenFetch). stays a.id) (λ a. not (is_known left_links a.id)) (λ a. stays a.id && not (is_known was.links a.id)) (λ a. alike a (forgotten a.id) refl) was.waits.waiting.asked)
+      ∙ filter_both (unknown was.table.links) (λ a. stays a.id) both (λ a. swap (unknown was.table.links a) (stays a.id)) was.waits.waiting.asked
+      ∙ sym (filter_both (λ (a : OpenFetch). stays a.id) (unknown left_links) both (λ a. alike a (forgotten a.id) refl) was.waits.waiting.asked)
     where
       swap : (b c : Bool) → (b && c) ≡ (c && b)
       swap true true = refl
@@ -173,17 +170,35 @@ module _ (was : ServerData) (left : Left) (right : IsRight was) (o : IsOver was.
       swap false true = refl
       swap false false = refl
 
-      alike : (a : OpenFetch) (b : Bool) → forgotten a.id ≡ b → (not b && not (is_known left_links a.id)) ≡ (not b && not (is_known was.links a.id))
+      alike : (a : OpenFetch) (b : Bool) → forgotten a.id ≡ b → (not b && unknown left_links a) ≡ (not b && unknown was.table.links a)
       alike a true e = refl
       alike a false e = ap not (same_known a.id e)
 
   -- ---- what is left is consistent
 
-  module _ (started : Entered) (known : List KnownList) (waits : Awaited) (taken : TakenComponents) (ancestors : HeldRows) (rows_are : AreRows left.links ancestors.rows) (groups_are : started.groups ≡ some_started) (known_are : known ≡ filter (λ k. stays k.of) was.known)
+  module _ (started : Entered) (table : TableLists) (waits : Awaited) (taken : TakenComponents)
+      (groups_are : started.groups ≡ some_started) (known_are : table.known ≡ filter (λ k. stays k.of) was.table.known) (links_are : table.links ≡ left_links)
+      (decided_are : IsRisingListOf (λ t. IsListed is_txn was.table.decided t × (is_listed is_txn gone t ≡ false)) table.decided)
       (waiting_is : waits.waiting ≡ without_asked forgotten was.waits.waiting) (fetches_are : waits.fetches ≡ filter (λ a. stays a.id) was.waits.fetches)
       (taken_are : taken.components ≡ filter (λ c. not (passes c)) components) where
     abbrev new : ServerData
-    new = record was { started = started; known = known; links = left.links; waits = waits; decided = decided; ancestors = ancestors; taken = taken }
+    new = record was { started = started; table = table; waits = waits; taken = taken }
+
+    still_decided : (t : TxnId) → IsListed is_txn table.decided t → IsDecided table.links t
+    still_decided t l =
+        let p = decided_are.sound t l in
+        subst (λ ks. IsDecided ks t) (sym links_are) (decided_left forgotten was.table.links t (right.decided_only t p.0) p.1)
+
+    decided_still : (t : TxnId) → IsDecided table.links t → IsListed is_txn table.decided t
+    decided_still t d =
+        let p = left_decided forgotten was.table.links were_decided t (subst (λ ks. IsDecided ks t) links_are d) in
+        decided_are.complete t (right.decided_all t p.0, p.1)
+
+    same_decided : (t : TxnId) → forgotten t ≡ false → is_listed is_txn table.decided t ≡ is_listed is_txn was.table.decided t
+    same_decided t n =
+        same_tests (is_listed is_txn table.decided t) (is_listed is_txn was.table.decided t)
+        (λ e. listed_test is_txn was.table.decided t (decided_are.sound t (listed_true is_txn table.decided t e)).0)
+        (λ e. listed_test is_txn table.decided t (decided_are.complete t (listed_true is_txn was.table.decided t e, n)))
 
     asked_are : waits.waiting.asked ≡ some_asked
     asked_are = ap (λ (w : Waiting). w.asked) waiting_is
@@ -203,26 +218,31 @@ module _ (was : ServerData) (left : Left) (right : IsRight was) (o : IsOver was.
         go c h k true e = absurd (false≢true (sym n ∙ over_gone c t h k e))
         go c h k false e = refl
 
+    linked_now : AreLinksOf (is_ended was.marks) table.known table.links
+    linked_now =
+        subst (λ ks. AreLinksOf (is_ended was.marks) ks table.links) (sym known_are)
+        (subst (AreLinksOf (is_ended was.marks) (filter (λ k. stays k.of) was.table.known)) (sym links_are)
+        (links_left (is_ended was.marks) forgotten were_ended stays was.table.known was.table.links right.linked))
+
+    none_left : AllByRecursion (λ d. left_over table.links started.groups waits.waiting.asked d ≡ false) (all_entries table.links)
+    none_left =
+        subst (λ es. AllByRecursion (λ d. left_over table.links es waits.waiting.asked d ≡ false) (all_entries table.links)) (sym groups_are)
+        (subst (λ asked. AllByRecursion (λ d. left_over table.links some_started asked d ≡ false) (all_entries table.links)) (sym asked_are)
+        (subst (λ ks. AllByRecursion (λ d. left_over ks some_started some_asked d ≡ false) (all_entries ks)) (sym links_are) none_left_now))
+
     right_now : IsRight new
     right_now = record {
       groups_once = subst (NoneTwice is_same_group) (sym groups_are) (once_some is_same_group (λ e. stays e.id) was.started.groups right.groups_once);
       decided_rising = decided_are.rising;
       decided_only = still_decided;
       decided_all = decided_still;
-      rows = rows_are;
-      lacks = subst (λ ks. AreLacks ks was.lacks) (sym rest.links_are) (lacks_left forgotten was.links was_decided was.lacks right.lacks);
       index = λ c.
           right.index c
-          ∙ index_left forgotten was.decided.ids decided.ids (λ t e. listed_test is_txn was.decided.ids t (right.decided_all t (was_decided t e))) same_decided c was.started.groups
-          ∙ ap (λ es. undecided decided.ids (group_refs_of c es)) (sym groups_are);
-      none_left =
-          subst (λ es. AllByRecursion (λ d. left_over left.links es waits.waiting.asked d ≡ false) (all_entries left.links)) (sym groups_are)
-          (subst (λ asked. AllByRecursion (λ d. left_over left.links some_started asked d ≡ false) (all_entries left.links)) (sym asked_are)
-          (subst (λ ks. AllByRecursion (λ d. left_over ks some_started some_asked d ≡ false) (all_entries ks)) (sym rest.links_are) none_left_now));
-      open_unknown = fetches_are ∙ open_now ∙ (λ i. filter (λ (a : OpenFetch). not (is_known (sym rest.links_are i) a.id)) (sym asked_are i));
-      linked =
-          subst (λ ks. AreLinksOf (is_ended was.marks) ks left.links) (sym known_are)
-          (subst (AreLinksOf (is_ended was.marks) (filter (λ k. stays k.of) was.known)) (sym rest.links_are) (links_left (is_ended was.marks) forgotten were_ended stays was.known was.links right.linked));
+          ∙ index_left forgotten was.table.decided table.decided (λ t e. listed_test is_txn was.table.decided t (were_listed t e)) same_decided c was.started.groups
+          ∙ ap (λ es. undecided table.decided (group_refs_of c es)) (sym groups_are);
+      none_left = none_left;
+      open_unknown = fetches_are ∙ open_now ∙ (λ i. filter (unknown (sym links_are i)) (sym asked_are i));
+      linked = linked_now;
       taken_decided = λ t l. let p = open_members t l in decided_are.complete t (right.taken_decided t p.0, p.1);
       decided_taken = λ t l. let p = decided_are.sound t l in members_open t (right.decided_taken t p.0) p.1;
       taken_once = subst (λ cs. NoneTwice is_txn (members cs)) (sym taken_are) (members_once (λ c. not (passes c)) components right.taken_once);
@@ -238,47 +258,13 @@ module _ (was : ServerData) (left : Left) (right : IsRight was) (o : IsOver was.
       store = was.rows.store;
       started = (groups_are ∙ (λ j. filter (λ (e : StartedGroup). not (is_forgotten e.id j)) was.started.groups)) i;
       lists = record {
-        known = (known_are ∙ (λ j. filter (λ (k : KnownList). not (is_forgotten k.of j)) was.known)) i;
-        links = (rest.links_are ∙ (λ j. map (without_links (λ t. is_forgotten t j)) (filter (λ (k : KnownList). not (is_forgotten k.of j)) was.links))) i;
+        known = (known_are ∙ (λ j. filter (λ (k : KnownList). not (is_forgotten k.of j)) was.table.known)) i;
+        links = (links_are ∙ (λ j. map (without_links (λ t. is_forgotten t j)) (filter (λ (k : KnownList). not (is_forgotten k.of j)) was.table.links))) i;
         waiting = (waiting_is ∙ (λ j. without_asked (λ t. is_forgotten t j) was.waits.waiting)) i;
         taken = taken_are i;
       };
       below = was.marks;
     }
 
-    forgets : (old : ServerData) → Forgets old new was
-    forgets old = record { state = state_now; sound = forgotten_now }
-
--- the same, where other things were made anew already, by the lists of what is forgotten that the calls were given
-pub forgets_from : (old : ServerData) (left : Left) (f : IsForgettable old left) (first second third fourth : List TxnId) (started : Entered) (known : List KnownList) (waits : Awaited) (taken : TakenComponents) (decided : DecidedIds)
-    (ancestors : HeldRows) → first ≡ left.over.items → second ≡ left.over.items → third ≡ left.over.items → fourth ≡ left.over.items → started.groups ≡ filter (λ e. not (is_listed is_txn first e.id)) old.started.groups
-    → known ≡ filter (λ k. not (is_listed is_txn second k.of)) old.known → waits.waiting ≡ without_asked (is_listed is_txn third) old.waits.waiting
-    → waits.fetches ≡ filter (λ a. not (is_listed is_txn third a.id)) old.waits.fetches → taken.components ≡ filter (λ c. not (is_over old.marks c)) old.taken.components
-    → IsRisingListOf (λ t. IsListed is_txn old.decided.ids t × (is_listed is_txn fourth t ≡ false)) decided.ids → ancestors.rows ≡ rows_behind old.ancestors.rows left.ancestors
-    → Forgets old (record old { started = started; known = known; links = left.links; waits = waits; decided = decided; ancestors = ancestors; taken = taken }) f.was
-forgets_from old left f first second third fourth started known waits taken decided ancestors one two three four groups_are known_are waiting_is fetches_are taken_are decided_are rows_are =
-    subst (λ k. Forgets old k f.was)
-    (λ i. record (sym f.same i) { started = started; known = known; links = left.links; waits = waits; decided = decided; ancestors = ancestors; taken = taken })
-    (forgets f.was left f.right f.over decided
-    (subst (λ (k : ServerData). IsRisingListOf (λ t. IsListed is_txn k.decided.ids t × (is_listed is_txn left.over.items t ≡ false)) decided.ids) f.same
-    (subst (λ ids. IsRisingListOf (λ t. IsListed is_txn old.decided.ids t × (is_listed is_txn ids t ≡ false)) decided.ids) four decided_are))
-    started known waits taken ancestors (subst (AreRows left.links) (sym rows_are) f.rows)
-    (groups_are ∙ (λ i. filter (λ (e : StartedGroup). not (is_listed is_txn (one i) e.id)) (f.same i).started.groups))
-    (known_are ∙ (λ i. filter (λ (k : KnownList). not (is_listed is_txn (two i) k.of)) (f.same i).known))
-    (waiting_is ∙ (λ i. without_asked (is_listed is_txn (three i)) (f.same i).waits.waiting))
-    (fetches_are ∙ (λ i. filter (λ (a : OpenFetch). not (is_listed is_txn (three i) a.id)) (f.same i).waits.fetches))
-    (taken_are ∙ (λ i. filter (λ (c : List TxnId). not (is_over (f.same i).marks c)) (f.same i).taken.components)) old)
-
--- where none is kept, all are right
-pub no_rows : (links : List KnownList) → AreRows links []
-no_rows links t ids is = absurd (cc)
-
--- what is over of what is kept is forgotten so, whatever rows are kept
-abbrev pub forgettable : (k : ServerData) (left : Left) → IsOverOf k (Some left) → IsForgettable k left
-forgettable k left o = record {
-  was = record k { ancestors = record { rows = []; spare = 0 } };
-  same = refl;
-  right = o.right (record { rows = []; spare = 0 }) (no_rows k.links);
-  over = o.over;
-  rows = o.rows;
-}
+    pub forgets : Forgets was new
+    forgets = record { state = state_now; sound = forgotten_now }

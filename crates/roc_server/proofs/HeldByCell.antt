@@ -127,11 +127,11 @@ module _ (k : ServerData) (change : Change) (p : IsPlanned k change) where
   pub planned_once : NoneTwice is_same_group k.started.groups
   planned_once = once_same (before k change).started.groups k.started.groups (same_by k change p) (planned_sound k change p).right.groups_once
 
-  pub planned_index : IsIndexOf k.index k.decided.ids k.started.groups
+  pub planned_index : IsIndexOf k.index k.table.decided k.started.groups
   planned_index c =
       let was = before k change in
       let u = untouched_by k change in
       (λ i. group_refs_at c (sym u.index i))
       ∙ (planned_sound k change p).right.index c
-      ∙ (λ i. undecided (u.decided i).ids (group_refs_of c was.started.groups))
-      ∙ ap (undecided k.decided.ids) (sym (group_refs_same c was.started.groups k.started.groups (same_by k change p)))
+      ∙ (λ i. undecided (u.decided i) (group_refs_of c was.started.groups))
+      ∙ ap (undecided k.table.decided) (sym (group_refs_same c was.started.groups k.started.groups (same_by k change p)))

@@ -17,11 +17,11 @@ use Rattle.roc_depgraph.specs.declared.known.KnownList.{KnownList}
 use Rattle.roc_depgraph.specs.Closure.{IsRisingListOf}
 use Rattle.roc_depgraph.specs.Deps.{IsDecided}
 use Rattle.roc_depgraph.proofs.Laws.{decided_stays}
+use Rattle.roc_depgraph.proofs.RisingIds as rising_ids
 use Rattle.roc_depgraph.proofs.RisingLists.{none_listed, rising_one}
 use Rattle.roc_group.specs.declared.access.Access.{Access}
 use Rattle.roc_step.specs.New.{AreDecided}
 use Rattle.roc_server_lists.proofs.Learning.{keeps_front}
-use Rattle.roc_server_lists.proofs.RisingIds.{rising_of}
 use Rattle.roc_server.specs.declared.planned.Change.{Change}
 use Rattle.roc_server.specs.declared.planned.Change.TheVariants.{Nothing, Asker, Group, Lists, Marks, Settled}
 use Rattle.roc_server.specs.declared.planned.Lesson.{Lesson}
@@ -30,13 +30,12 @@ use Rattle.roc_server.specs.declared.server_data.ServerData.{ServerData}
 use Rattle.roc_step.specs.declared.started.StartedGroup.{StartedGroup}
 use Rattle.roc_step.specs.Forgets.{is_over, over}
 use Rattle.roc_server.specs.Inner.Answering.{decided_then, entered, is_held_up, newly, started_with, writes_one}
-use Rattle.roc_server.specs.Inner.Left.{links_left}
 use Rattle.roc_server.specs.Inner.Planned.{after, unlearnt, AreListsPlanned, IsPlanned, IsSettledPlanned}
 use Rattle.roc_server.specs.Inner.Settled.{links_settled}
 use Rattle.roc_server.specs.Inner.ServerData.{IsConsistent}
 use Rattle.roc_server.proofs.IndexSteps.{filter_all}
 use Rattle.roc_server.proofs.KeptLists.{among_more}
-use Rattle.roc_server.proofs.LeftSteps.{left_decide}
+use Rattle.roc_server.proofs.LeftSteps.{left_decide, links_left}
 use Rattle.roc_server.proofs.MarkedLinks.{still_decided}
 use Rattle.roc_server.proofs.SomeLeft.{member_all, members}
 
@@ -109,7 +108,9 @@ module _ (before new : List TxnId) (links : List KnownList) (marks : List ℕ) (
       ]
 
   rising_left : (ids : List TxnId) × IsRisingListOf (IsListed is_txn (filter stays all)) ids
-  rising_left = (_, rising_of (filter stays all))
+  rising_left =
+      let left : List TxnId = filter stays all in
+      (rising_ids.ids left, record { rising = rising_ids.ids_rise left; sound = rising_ids.ids_sound left; complete = rising_ids.ids_complete left })
 
   ids_left : List TxnId
   ids_left = rising_left.0
@@ -133,18 +134,18 @@ module _ (before new : List TxnId) (links : List KnownList) (marks : List ℕ) (
 -- ---- change by change
 
 -- where nothing is newly decided and nothing forgotten
-unchanged : (shard : Shard) (k : ServerData) (change : Change) → IsConsistent k → newly change ≡ [] → (after shard k change).lists.links ≡ k.links → (after shard k change).started ≡ started_with k.started.groups (entered change)
+unchanged : (shard : Shard) (k : ServerData) (change : Change) → IsConsistent k → newly change ≡ [] → (after shard k change).lists.links ≡ k.table.links → (after shard k change).started ≡ started_with k.started.groups (entered change)
     → Decides shard k change
 unchanged shard k change sound none links groups =
     let right = sound.right in
     record {
       forgotten = λ _. false;
-      ids = k.decided.ids;
-      are = subst (λ ks. AreDecided ks k.decided.ids) (sym links) (record { rising = right.decided_rising; sound = right.decided_only; complete = right.decided_all });
+      ids = k.table.decided;
+      are = subst (λ ks. AreDecided ks k.table.decided) (sym links) (record { rising = right.decided_rising; sound = right.decided_only; complete = right.decided_all });
       were = λ t e. absurd (false≢true e);
       same = λ t e.
-          same_tests (is_listed is_txn k.decided.ids t) (decided_then k change t) (or_left (is_listed is_txn k.decided.ids t) (is_listed is_txn (newly change) t))
-          (λ e. elim (or_cases (is_listed is_txn k.decided.ids t) (is_listed is_txn (newly change) t) e) [
+          same_tests (is_listed is_txn k.table.decided t) (decided_then k change t) (or_left (is_listed is_txn k.table.decided t) (is_listed is_txn (newly change) t))
+          (λ e. elim (or_cases (is_listed is_txn k.table.decided t) (is_listed is_txn (newly change) t) e) [
             | inl a ↦ a
             | inr a ↦ absurd (none_listed t (subst (λ ts. IsListed is_txn ts t) none (listed_true is_txn (newly change) t a)))
           ]);
@@ -155,18 +156,18 @@ module _ (k : ServerData) (l : Lesson) (p : AreListsPlanned k l) where
   abbrev was : ServerData
   was = unlearnt k l
 
-  lists_before : (t : TxnId) → IsListed is_txn k.decided.ids t → IsDecided k.links t
+  lists_before : (t : TxnId) → IsListed is_txn k.table.decided t → IsDecided k.table.links t
   lists_before t a =
       subst (λ ks. IsDecided ks t) (sym (p.learnt.links.links_are ∙ ap (λ ks. ks ++ p.learnt.links.linked) p.links_before))
-      (decided_stays was.links (was.links ++ p.learnt.links.linked) (keeps_front was.links p.learnt.links.linked) t (p.sound.right.decided_only t a))
+      (decided_stays was.table.links (was.table.links ++ p.learnt.links.linked) (keeps_front was.table.links p.learnt.links.linked) t (p.sound.right.decided_only t a))
 
-  lists_new : (t : TxnId) → IsListed is_txn l.found.ids.items t → IsDecided k.links t
+  lists_new : (t : TxnId) → IsListed is_txn l.found.ids.items t → IsDecided k.table.links t
   lists_new t a = (p.chosen.members.only t (subst (λ ts. IsListed is_txn ts t) p.ids a)).0
 
-  lists_all : (t : TxnId) → IsDecided k.links t → IsListed is_txn k.decided.ids t ⊎ IsListed is_txn l.found.ids.items t
-  lists_all t d = elim (listed_or_not is_txn k.decided.ids t) [ inl a ↦ inl a | inr a ↦ inr (subst (λ ts. IsListed is_txn ts t) (sym p.ids) (p.chosen.members.all t (d, a))) ]
+  lists_all : (t : TxnId) → IsDecided k.table.links t → IsListed is_txn k.table.decided t ⊎ IsListed is_txn l.found.ids.items t
+  lists_all t d = elim (listed_or_not is_txn k.table.decided t) [ inl a ↦ inl a | inr a ↦ inr (subst (λ ts. IsListed is_txn ts t) (sym p.ids) (p.chosen.members.all t (d, a))) ]
 
-  lists_taken : (t : TxnId) → IsListed is_txn (members (k.taken.components ++ l.found.components.items)) t → IsListed is_txn k.decided.ids t ⊎ IsListed is_txn l.found.ids.items t
+  lists_taken : (t : TxnId) → IsListed is_txn (members (k.taken.components ++ l.found.components.items)) t → IsListed is_txn k.table.decided t ⊎ IsListed is_txn l.found.ids.items t
   lists_taken t m =
       elim (among_more k.taken.components l.found.components.items t m) [
         | inl a ↦ inl (p.sound.right.taken_decided t a)
@@ -175,18 +176,18 @@ module _ (k : ServerData) (l : Lesson) (p : AreListsPlanned k l) where
 
 module _ (k : ServerData) (s : Settlement) (p : IsSettledPlanned k s) where
   abbrev settled : List KnownList
-  settled = links_settled k.links s.found.settled.items
+  settled = links_settled k.table.links s.found.settled.items
 
-  settled_before : (t : TxnId) → IsListed is_txn k.decided.ids t → IsDecided settled t
-  settled_before t a = still_decided (is_listed is_txn s.found.settled.items) k.links t (p.sound.right.decided_only t a)
+  settled_before : (t : TxnId) → IsListed is_txn k.table.decided t → IsDecided settled t
+  settled_before t a = still_decided (is_listed is_txn s.found.settled.items) k.table.links t (p.sound.right.decided_only t a)
 
   settled_new : (t : TxnId) → IsListed is_txn s.found.ids.items t → IsDecided settled t
   settled_new t a = (p.found.chosen.members.only t (subst (λ ts. IsListed is_txn ts t) p.found.ids a)).0
 
-  settled_all : (t : TxnId) → IsDecided settled t → IsListed is_txn k.decided.ids t ⊎ IsListed is_txn s.found.ids.items t
-  settled_all t d = elim (listed_or_not is_txn k.decided.ids t) [ inl a ↦ inl a | inr a ↦ inr (subst (λ ts. IsListed is_txn ts t) (sym p.found.ids) (p.found.chosen.members.all t (d, a))) ]
+  settled_all : (t : TxnId) → IsDecided settled t → IsListed is_txn k.table.decided t ⊎ IsListed is_txn s.found.ids.items t
+  settled_all t d = elim (listed_or_not is_txn k.table.decided t) [ inl a ↦ inl a | inr a ↦ inr (subst (λ ts. IsListed is_txn ts t) (sym p.found.ids) (p.found.chosen.members.all t (d, a))) ]
 
-  settled_taken : (t : TxnId) → IsListed is_txn (members (k.taken.components ++ s.found.components.items)) t → IsListed is_txn k.decided.ids t ⊎ IsListed is_txn s.found.ids.items t
+  settled_taken : (t : TxnId) → IsListed is_txn (members (k.taken.components ++ s.found.components.items)) t → IsListed is_txn k.table.decided t ⊎ IsListed is_txn s.found.ids.items t
   settled_taken t m =
       elim (among_more k.taken.components s.found.components.items t m) [
         | inl a ↦ inl (p.sound.right.taken_decided t a)
@@ -198,35 +199,35 @@ decides shard k Nothing p = unchanged shard k Nothing p refl refl refl
 decides shard k (Asker asker) p = unchanged shard k (Asker asker) p.0 refl refl refl
 decides shard k (Group e) p = unchanged shard k (Group e) p.sound refl refl refl
 decides shard k (Lists l) p =
-    let before = k.decided.ids in
+    let before = k.table.decided in
     let ids = l.found.ids.items in
     let taken = k.taken.components ++ l.found.components.items in
     record {
       forgotten = λ t. is_listed is_txn (over k.marks taken) t;
-      ids = ids_left before ids k.links k.marks taken (lists_before k l p) (lists_new k l p) (lists_all k l p) (lists_taken k l p);
-      are = are_left before ids k.links k.marks taken (lists_before k l p) (lists_new k l p) (lists_all k l p) (lists_taken k l p);
-      were = were_decided before ids k.links k.marks taken (lists_before k l p) (lists_new k l p) (lists_all k l p) (lists_taken k l p);
-      same = same_left before ids k.links k.marks taken (lists_before k l p) (lists_new k l p) (lists_all k l p) (lists_taken k l p);
+      ids = ids_left before ids k.table.links k.marks taken (lists_before k l p) (lists_new k l p) (lists_all k l p) (lists_taken k l p);
+      are = are_left before ids k.table.links k.marks taken (lists_before k l p) (lists_new k l p) (lists_all k l p) (lists_taken k l p);
+      were = were_decided before ids k.table.links k.marks taken (lists_before k l p) (lists_new k l p) (lists_all k l p) (lists_taken k l p);
+      same = same_left before ids k.table.links k.marks taken (lists_before k l p) (lists_new k l p) (lists_all k l p) (lists_taken k l p);
       stay = refl;
     }
 decides shard k (Marks h) p =
     let right = p.sound.right in
-    let before = k.decided.ids in
-    let none : (t : TxnId) → IsListed is_txn [] t → IsDecided k.links t = λ t a. absurd (none_listed t a) in
-    let all : (t : TxnId) → IsDecided k.links t → IsListed is_txn before t ⊎ IsListed is_txn [] t = λ t d. inl (right.decided_all t d) in
+    let before = k.table.decided in
+    let none : (t : TxnId) → IsListed is_txn [] t → IsDecided k.table.links t = λ t a. absurd (none_listed t a) in
+    let all : (t : TxnId) → IsDecided k.table.links t → IsListed is_txn before t ⊎ IsListed is_txn [] t = λ t d. inl (right.decided_all t d) in
     let taken : (t : TxnId) → IsListed is_txn (members k.taken.components) t → IsListed is_txn before t ⊎ IsListed is_txn [] t = λ t m. inl (right.taken_decided t m) in
     record {
       forgotten = λ t. is_listed is_txn (over h.marks k.taken.components) t;
-      ids = ids_left before [] k.links h.marks k.taken.components right.decided_only none all taken;
-      are = are_left before [] k.links h.marks k.taken.components right.decided_only none all taken;
-      were = were_decided before [] k.links h.marks k.taken.components right.decided_only none all taken;
-      same = same_left before [] k.links h.marks k.taken.components right.decided_only none all taken;
+      ids = ids_left before [] k.table.links h.marks k.taken.components right.decided_only none all taken;
+      are = are_left before [] k.table.links h.marks k.taken.components right.decided_only none all taken;
+      were = were_decided before [] k.table.links h.marks k.taken.components right.decided_only none all taken;
+      same = same_left before [] k.table.links h.marks k.taken.components right.decided_only none all taken;
       stay = refl;
     }
 decides shard k (Settled s) p =
-    let before = k.decided.ids in
+    let before = k.table.decided in
     let ids = s.found.ids.items in
-    let links = links_settled k.links s.found.settled.items in
+    let links = links_settled k.table.links s.found.settled.items in
     let marks = s.found.marks in
     let taken = k.taken.components ++ s.found.components.items in
     record {

@@ -13,26 +13,20 @@ use Rattle.roc_depgraph.specs.declared.known.KnownList.{KnownList}
 use Rattle.roc_depgraph.specs.Deps.{is_known, IsDecided}
 use Rattle.roc_server.specs.declared.server_data.ServerData.{ServerData}
 use Rattle.std.specs.List.{AllByRecursion, flat_map}
-use Rattle.std.proofs.lemmas.Option.{none-some}
 use Rattle.roc_base.proofs.Ids.{none_rise, unlisted_none}
-use Rattle.roc_server_ancestors.specs.Least.{AreRows}
 use Rattle.roc_step.specs.Waits.{Waiting, none_waiting}
-use Rattle.roc_await.specs.Lacks.{AreLacks}
 use Rattle.roc_server.specs.Inner.Indexed.{IsIndexOf}
 use Rattle.roc_server.specs.Inner.ServerData.{IsConsistent, is_left, is_same_group}
 
 none_decided : (t : TxnId) → ¬ IsDecided [] t
 none_decided t d = false≢true d.own
 
-no_lacks : AreLacks [] []
-no_lacks = record { each = tt; some = tt; all = λ t h. absurd (false≢true h) }
-
 no_group_refs : IsIndexOf [] [] []
 no_group_refs c = refl
 
-pub nothing_sound : (k : ServerData) → k.started.groups ≡ [] → k.known ≡ [] → k.links ≡ [] → k.decided.ids ≡ [] → k.ancestors.rows ≡ [] → k.lacks ≡ [] → k.index ≡ [] → k.waits.waiting ≡ none_waiting → k.waits.fetches ≡ []
+pub nothing_sound : (k : ServerData) → k.started.groups ≡ [] → k.table.known ≡ [] → k.table.links ≡ [] → k.table.decided ≡ [] → k.index ≡ [] → k.waits.waiting ≡ none_waiting → k.waits.fetches ≡ []
     → k.taken.components ≡ [] → IsConsistent k
-nothing_sound k started known links decided ancestors lacks index waiting open_none taken =
+nothing_sound k started known links decided index waiting open_none taken =
     let once : NoneTwice is_same_group [] = tt in
     let Members : List (List TxnId) → TxnId → Type 0 = λ cs t. IsListed is_txn (flat_map (λ c. c) cs) t in
     let none_twice : NoneTwice is_txn [] = tt in
@@ -42,12 +36,10 @@ nothing_sound k started known links decided ancestors lacks index waiting open_n
         decided_rising = subst (IsStrictlySortedBy txn_cmp) (sym decided) none_rise;
         decided_only = λ t l. absurd (unlisted_none t (subst (λ (ids : List TxnId). IsListed is_txn ids t) decided l));
         decided_all = λ t d. absurd (none_decided t (subst (λ (ks : List KnownList). IsDecided ks t) links d));
-        rows = subst (AreRows k.links) (sym ancestors) (λ t ids is. absurd (none-some ids is));
-        lacks = subst (λ (ks : List KnownList). AreLacks ks k.lacks) (sym links) (subst (AreLacks []) (sym lacks) no_lacks);
-        index = subst (λ es. IsIndexOf k.index k.decided.ids es) (sym started) (subst (λ ids. IsIndexOf k.index ids []) (sym decided) (subst (λ i. IsIndexOf i [] []) (sym index) no_group_refs));
+        index = subst (λ es. IsIndexOf k.index k.table.decided es) (sym started) (subst (λ ids. IsIndexOf k.index ids []) (sym decided) (subst (λ i. IsIndexOf i [] []) (sym index) no_group_refs));
         none_left = subst (λ (ks : List KnownList). AllByRecursion (λ d. is_left k d ≡ false) (all_entries ks)) (sym links) tt;
-        open_unknown = open_none ∙ sym (ap (λ (w : Waiting). filter (λ a. not (is_known k.links a.id)) w.asked) waiting);
-        linked = subst (λ ks. AreLinksOf (is_ended k.marks) ks k.links) (sym known) (subst (AreLinksOf (is_ended k.marks) []) (sym links) tt);
+        open_unknown = open_none ∙ sym (ap (λ (w : Waiting). filter (λ a. not (is_known k.table.links a.id)) w.asked) waiting);
+        linked = subst (λ ks. AreLinksOf (is_ended k.marks) ks k.table.links) (sym known) (subst (AreLinksOf (is_ended k.marks) []) (sym links) tt);
         taken_decided = λ t l. absurd (unlisted_none t (subst (λ cs. Members cs t) taken l));
         decided_taken = λ t l. absurd (unlisted_none t (subst (λ (ids : List TxnId). IsListed is_txn ids t) decided l));
         taken_once = subst (λ cs. NoneTwice is_txn (flat_map (λ c. c) cs)) (sym taken) none_twice;

@@ -16,7 +16,6 @@ use Rattle.roc_base.specs.Edge.{Dependency}
 use Rattle.roc_base.specs.Edges.{united}
 use Rattle.roc_server_index.specs.GroupRefs.{group_refs_at}
 use Rattle.roc_step.specs.Waits.{Waiting, was_asked_for, with_all_asked}
-use Rattle.roc_await.specs.Lacks.{AreLacks}
 use Rattle.roc_step.specs.declared.waits.OpenFetch.{OpenFetch}
 use Rattle.roc_step.proofs.Asking.{asked_still, asked_all}
 use Rattle.roc_await.proofs.OpenFetches.{some_all_asked}
@@ -24,7 +23,6 @@ use Rattle.roc_depgraph.specs.declared.known.KnownList.{KnownList}
 use Rattle.roc_depgraph.specs.Deps.{is_known, IsKnown, IsDecided}
 use Rattle.roc_depgraph.proofs.Laws.{decided_stays}
 use Rattle.roc_rows.specs.Held.{Held}
-use Rattle.roc_server_ancestors.specs.Least.{AreRows, HeldRows}
 use Rattle.roc_step.specs.Asking.{asked_of, open_after, waiting_after}
 use Rattle.roc_step.specs.Links.{all_entries, AreLinksOf}
 use Rattle.roc_step.specs.New.{AreNewTaken}
@@ -38,13 +36,12 @@ use Rattle.roc_step.specs.Below.{is_ended}
 use Rattle.roc_step.specs.Lists.{is_missing, missing_from}
 use Rattle.roc_step.specs.State.{is_here, unrun, ServerState}
 use Rattle.roc_server.specs.Inner.Forgetting.{IsOverOf}
+use Rattle.roc_server.specs.Inner.Over.{AreOver}
 use Rattle.roc_server.specs.Inner.Indexed.{undecided, AreGroupRefsOf, IsIndexOf}
-use Rattle.roc_server.specs.Inner.Left.{AreRowsBehind, IsOver}
 use Rattle.roc_server.specs.Inner.Planned.{unlearnt, with_lists, AreListsPlanned}
 use Rattle.roc_server.specs.Inner.ServerData.{state_of, is_left, AreSameGroups, IsRight}
 use Rattle.roc_server.specs.Inner.Taught.{KeepsFound}
 use Rattle.roc_server.proofs.IndexSteps.{index_decided, indexed_group_refs}
-use Rattle.roc_server.proofs.LeftNew.{behind_added}
 use Rattle.roc_server.proofs.LeftOut.{missing_of, missing_unknown}
 use Rattle.roc_server.proofs.MissingSteps.{filter_alike}
 use Rattle.roc_server.proofs.SameGroups.{once_same, here_same}
@@ -52,11 +49,11 @@ use Rattle.roc_server.proofs.Stands.{group_refs_same}
 use Rattle.roc_server.proofs.Undone.{cells_beside}
 
 -- the index is right for the groups that ran, too
-pub refs_ran : (was k : ServerData) → IsRight was → AreSameGroups was.started.groups k.started.groups → k.index ≡ was.index → k.decided.ids ≡ was.decided.ids → AreGroupRefsOf k.started.groups k.index
+pub refs_ran : (was k : ServerData) → IsRight was → AreSameGroups was.started.groups k.started.groups → k.index ≡ was.index → k.table.decided ≡ was.table.decided → AreGroupRefsOf k.started.groups k.index
 refs_ran was k r groups same decided =
-    let index : IsIndexOf k.index k.decided.ids k.started.groups =
+    let index : IsIndexOf k.index k.table.decided k.started.groups =
     λ c. ap (λ index. group_refs_at c index) same ∙ r.index c ∙ (λ i. undecided (sym decided i) (sym (group_refs_same c was.started.groups k.started.groups groups) i)) in
-    indexed_group_refs k.index k.decided.ids k.started.groups index
+    indexed_group_refs k.index k.table.decided k.started.groups index
 
 -- what is listed among components, old and new
 pub among_more : (old more : List (List TxnId)) (t : TxnId) → IsListed is_txn (flat_map (λ c. c) (old ++ more)) t → IsListed is_txn (flat_map (λ c. c) old) t ⊎ IsListed is_txn (flat_map (λ c. c) more) t
@@ -92,7 +89,7 @@ module _ (k new : ServerData) (l : Lesson) (p : AreListsPlanned k l) (n : KeepsF
   s = state_of (record { 0 = 0 }) was
 
   abbrev all : List KnownList
-  all = was.links ++ linked
+  all = was.table.links ++ linked
 
   abbrev ids : List TxnId
   ids = l.found.ids.items
@@ -106,29 +103,26 @@ module _ (k new : ServerData) (l : Lesson) (p : AreListsPlanned k l) (n : KeepsF
   sound : IsRight was
   sound = p.sound.right
 
-  all_is : k.links ≡ all
+  all_is : k.table.links ≡ all
   all_is = p.learnt.links.links_are ∙ ap (λ ks. ks ++ linked) p.links_before
 
-  links_is : all ≡ new.links
+  links_is : all ≡ new.table.links
   links_is = sym all_is ∙ sym n.links
 
-  chosen : AreNewTaken (IsListed is_txn was.decided.ids) all components
-  chosen = subst (λ (ks : List KnownList). AreNewTaken (IsListed is_txn k.decided.ids) ks components) all_is p.chosen
+  chosen : AreNewTaken (IsListed is_txn was.table.decided) all components
+  chosen = subst (λ (ks : List KnownList). AreNewTaken (IsListed is_txn k.table.decided) ks components) all_is p.chosen
 
-  missing_is : asks ≡ missing_from s k.known all
-  missing_is = p.missing (record { 0 = 0 }) ∙ ap (missing_from s k.known) all_is
+  missing_is : asks ≡ missing_from s k.table.known all
+  missing_is = p.missing (record { 0 = 0 }) ∙ ap (missing_from s k.table.known) all_is
 
-  waiting_is : waiting_after was.waits.waiting news (missing_from s k.known all) ≡ new.waits.waiting
+  waiting_is : waiting_after was.waits.waiting news (missing_from s k.table.known all) ≡ new.waits.waiting
   waiting_is = ap (waiting_after was.waits.waiting news) (sym missing_is) ∙ sym n.waiting
 
   groups : AreSameGroups was.started.groups new.started.groups
   groups = ap (map unrun) n.started ∙ p.groups
 
-  lacks_now : AreLacks all new.lacks
-  lacks_now = subst (λ (ks : List KnownList). AreLacks ks new.lacks) all_is (subst (AreLacks k.links) (sym n.lacks) p.lacks)
-
-  stays : (t : TxnId) → IsDecided was.links t → IsDecided all t
-  stays t d = decided_stays was.links all (keeps_front was.links linked) t d
+  stays : (t : TxnId) → IsDecided was.table.links t → IsDecided all t
+  stays t d = decided_stays was.table.links all (keeps_front was.table.links linked) t d
 
   -- what is followed is known, here or asked for
   abbrev missing : Dependency → Bool
@@ -137,28 +131,28 @@ module _ (k new : ServerData) (l : Lesson) (p : AreListsPlanned k l) (n : KeepsF
   one_after : (d : Dependency) → Has d (all_entries all) → is_left new d ≡ false
   one_after d named = go (missing d) refl
     where
-      known_now : IsKnown all d.from → is_known new.links d.from ≡ true
+      known_now : IsKnown all d.from → is_known new.table.links d.from ≡ true
       known_now k = subst (λ (ks : List KnownList). is_known ks d.from ≡ true) links_is k
 
       here_now : is_here d.from was.started.groups ≡ true → is_here d.from new.started.groups ≡ true
       here_now e = here_same d.from was.started.groups new.started.groups groups ∙ e
 
-      asked_is : with_all_asked (missing_from s k.known all) was.waits.waiting.asked ≡ new.waits.waiting.asked
+      asked_is : with_all_asked (missing_from s k.table.known all) was.waits.waiting.asked ≡ new.waits.waiting.asked
       asked_is = ap (λ (w : Waiting). w.asked) waiting_is
 
-      asked_now : was_asked_for d.from (with_all_asked (missing_from s k.known all) was.waits.waiting.asked) ≡ true → was_asked_for d.from new.waits.waiting.asked ≡ true
+      asked_now : was_asked_for d.from (with_all_asked (missing_from s k.table.known all) was.waits.waiting.asked) ≡ true → was_asked_for d.from new.waits.waiting.asked ≡ true
       asked_now e = subst (λ (xs : List OpenFetch). was_asked_for d.from xs ≡ true) asked_is e
 
       go : (b : Bool) → missing d ≡ b → is_left new d ≡ false
       go true e =
           let u = passed missing (λ a b f. missing_of s all a b f) (all_entries all) d named e in
-          let a : was_asked_for u.0.from (with_all_asked (missing_from s k.known all) was.waits.waiting.asked) ≡ true =
-          asked_all (asked_of k.known u.0) (missing_from s k.known all) was.waits.waiting.asked (has_map (asked_of k.known) u.0 (filter missing (united (all_entries all))) u.1) in
-          left_by_third (is_known new.links d.from) (is_here d.from new.started.groups) (was_asked_for d.from new.waits.waiting.asked)
-          (asked_now (subst (λ (t : TxnId). was_asked_for t (with_all_asked (missing_from s k.known all) was.waits.waiting.asked) ≡ true) u.2 a))
+          let a : was_asked_for u.0.from (with_all_asked (missing_from s k.table.known all) was.waits.waiting.asked) ≡ true =
+          asked_all (asked_of k.table.known u.0) (missing_from s k.table.known all) was.waits.waiting.asked (has_map (asked_of k.table.known) u.0 (filter missing (united (all_entries all))) u.1) in
+          left_by_third (is_known new.table.links d.from) (is_here d.from new.started.groups) (was_asked_for d.from new.waits.waiting.asked)
+          (asked_now (subst (λ (t : TxnId). was_asked_for t (with_all_asked (missing_from s k.table.known all) was.waits.waiting.asked) ≡ true) u.2 a))
       go false e =
-          left_still (is_known all d.from) (is_here d.from was.started.groups) (was_asked_for d.from was.waits.waiting.asked) (is_known new.links d.from) (is_here d.from new.started.groups) (was_asked_for d.from new.waits.waiting.asked)
-          known_now here_now (λ k2. asked_now (asked_still d.from (missing_from s k.known all) was.waits.waiting.asked k2)) e
+          left_still (is_known all d.from) (is_here d.from was.started.groups) (was_asked_for d.from was.waits.waiting.asked) (is_known new.table.links d.from) (is_here d.from new.started.groups) (was_asked_for d.from new.waits.waiting.asked)
+          known_now here_now (λ k2. asked_now (asked_still d.from (missing_from s k.table.known all) was.waits.waiting.asked k2)) e
 
   left_after : AllByRecursion (λ d. is_left new d ≡ false) (all_entries all)
   left_after = has_all (λ d. is_left new d ≡ false) (all_entries all) one_after
@@ -171,31 +165,31 @@ module _ (k new : ServerData) (l : Lesson) (p : AreListsPlanned k l) (n : KeepsF
   of_news : (t : TxnId) → list_any (λ (k : KnownList). is_txn k.of t) news ≡ list_any (λ (k : KnownList). is_txn k.of t) linked
   of_news t = sym (any_seen (λ u. is_txn u t) (λ (k : KnownList). k.of) news) ∙ ap (list_any (λ u. is_txn u t)) (sym p.learnt.links.of) ∙ any_seen (λ u. is_txn u t) (λ (k : KnownList). k.of) linked
 
-  open_now : new.waits.fetches ≡ filter (unknown new.links) new.waits.waiting.asked
+  open_now : new.waits.fetches ≡ filter (unknown new.table.links) new.waits.waiting.asked
   open_now =
-      let asked = missing_from s k.known all in
-      let old = filter (unknown was.links) was.waits.waiting.asked in
+      let asked = missing_from s k.table.known all in
+      let old = filter (unknown was.table.links) was.waits.waiting.asked in
       n.fetches
       ∙ (λ i. open_after (sound.open_unknown i) news (missing_is i))
       ∙ ap (with_all_asked asked) (filter_alike (λ (a : OpenFetch). not (list_any (λ (k : KnownList). is_txn k.of a.id) news)) (λ (a : OpenFetch). not (list_any (λ (k : KnownList). is_txn k.of a.id) linked)) old (λ a h. ap not (of_news a.id)))
-      ∙ ap (with_all_asked asked) (unknown_not_of (λ (a : OpenFetch). a.id) was.links linked was.waits.waiting.asked)
-      ∙ sym (some_all_asked (unknown all) asked was.waits.waiting.asked (missing_unknown s k.known all))
+      ∙ ap (with_all_asked asked) (unknown_not_of (λ (a : OpenFetch). a.id) was.table.links linked was.waits.waiting.asked)
+      ∙ sym (some_all_asked (unknown all) asked was.waits.waiting.asked (missing_unknown s k.table.known all))
       ∙ (λ i. filter (unknown (links_is i)) ((waiting_is i).asked))
 
-  linked_now : AreLinksOf (is_ended new.marks) new.known new.links
+  linked_now : AreLinksOf (is_ended new.marks) new.table.known new.table.links
   linked_now =
-      subst (λ marks. AreLinksOf (is_ended marks) new.known new.links) (sym n.marks)
-      (subst (λ ks. AreLinksOf (is_ended k.marks) ks new.links) (sym n.known) (subst (AreLinksOf (is_ended k.marks) k.known) (sym n.links) p.linked))
+      subst (λ marks. AreLinksOf (is_ended marks) new.table.known new.table.links) (sym n.marks)
+      (subst (λ ks. AreLinksOf (is_ended k.marks) ks new.table.links) (sym n.known) (subst (AreLinksOf (is_ended k.marks) k.table.known) (sym n.links) p.linked))
 
-  decided_is : (t : TxnId) → IsListed is_txn (was.decided.ids ++ ids) t → IsListed is_txn was.decided.ids t ⊎ IsListed is_txn (flat_map (λ c. c) components) t
-  decided_is t l = elim (listed_either is_txn was.decided.ids ids t l) [ inl a ↦ inl a | inr a ↦ inr (subst (λ ts. IsListed is_txn ts t) p.ids a.1) ]
+  decided_is : (t : TxnId) → IsListed is_txn (was.table.decided ++ ids) t → IsListed is_txn was.table.decided t ⊎ IsListed is_txn (flat_map (λ c. c) components) t
+  decided_is t l = elim (listed_either is_txn was.table.decided ids t l) [ inl a ↦ inl a | inr a ↦ inr (subst (λ ts. IsListed is_txn ts t) p.ids a.1) ]
 
-  is_decided : (t : TxnId) → IsListed is_txn was.decided.ids t ⊎ IsListed is_txn (flat_map (λ c. c) components) t → IsListed is_txn (was.decided.ids ++ ids) t
-  is_decided t l = elim l [ inl a ↦ listed_front is_txn was.decided.ids ids t a | inr a ↦ listed_behind is_txn was.decided.ids ids t (subst (λ ts. IsListed is_txn ts t) (sym p.ids) a) ]
+  is_decided : (t : TxnId) → IsListed is_txn was.table.decided t ⊎ IsListed is_txn (flat_map (λ c. c) components) t → IsListed is_txn (was.table.decided ++ ids) t
+  is_decided t l = elim l [ inl a ↦ listed_front is_txn was.table.decided ids t a | inr a ↦ listed_behind is_txn was.table.decided ids t (subst (λ ts. IsListed is_txn ts t) (sym p.ids) a) ]
 
-  -- so all is right, with any rows that are right for what is followed
-  right_after : (a : HeldRows) → AreRows new.links a.rows → IsRight (record new { ancestors = a })
-  right_after a right =
+  -- so all is right
+  right_after : IsRight new
+  right_after =
       let Decided : (t : TxnId) → List KnownList → Type 0 = λ t k. IsDecided k t in
       let Members : List (List TxnId) → TxnId → Type 0 = λ cs t. IsListed is_txn (flat_map (λ c. c) cs) t in
       record {
@@ -207,10 +201,8 @@ module _ (k new : ServerData) (l : Lesson) (p : AreListsPlanned k l) (n : KeepsF
         decided_all = λ t d.
             let now = subst (Decided t) (sym links_is) d in
             n.decided.complete t
-            (is_decided t (elim (listed_or_not is_txn was.decided.ids t) [ inl a ↦ inl a | inr a ↦ inr (chosen.members.all t (now, a)) ]));
-        rows = right;
-        lacks = subst (λ (ks : List KnownList). AreLacks ks new.lacks) links_is lacks_now;
-        index = index_decided was.index new.index was.decided.ids ids new.decided.ids was.started.groups new.started.groups sound.index n.index groups (decided_test was.decided.ids ids new.decided.ids n.decided);
+            (is_decided t (elim (listed_or_not is_txn was.table.decided t) [ inl a ↦ inl a | inr a ↦ inr (chosen.members.all t (now, a)) ]));
+        index = index_decided was.index new.index was.table.decided ids new.table.decided was.started.groups new.started.groups sound.index n.index groups (decided_test was.table.decided ids new.table.decided n.decided);
         none_left = subst (λ (ks : List KnownList). AllByRecursion (λ d. is_left new d ≡ false) (all_entries ks)) links_is left_after;
         open_unknown = open_now;
         linked = linked_now;
@@ -220,20 +212,15 @@ module _ (k new : ServerData) (l : Lesson) (p : AreListsPlanned k l) (n : KeepsF
         decided_taken = λ t l.
             subst (λ cs. Members cs t) (sym n.taken)
             (more_among was.taken.components components t (elim (decided_is t (n.decided.sound t l)) [ inl a ↦ inl (sound.decided_taken t a) | inr a ↦ inr a ]));
-        taken_once = subst (λ cs. NoneTwice is_txn (flat_map (λ c. c) cs)) (sym n.taken) (once_more was.taken.components components was.decided.ids all sound.taken_once sound.taken_decided chosen);
-        taken_some = λ c has. some_more was.taken.components components was.decided.ids all sound.taken_some chosen c (subst (Has c) n.taken has);
+        taken_once = subst (λ cs. NoneTwice is_txn (flat_map (λ c. c) cs)) (sym n.taken) (once_more was.taken.components components was.table.decided all sound.taken_once sound.taken_decided chosen);
+        taken_some = λ c has. some_more was.taken.components components was.table.decided all sound.taken_some chosen c (subst (Has c) n.taken has);
       }
 
   -- what is over is to be forgotten
-  pub is_over : (released : Held) → IsOverOf (record new { rows = released }) l.left
+  pub is_over : (released : Held) → IsOverOf (record new { rows = released }) l.over.items
   is_over released = record {
-    right = λ a right. cells_beside (record new { ancestors = a }) released (right_after a right);
-    over =
-        subst (λ marks. IsOver marks new.taken.components new.links l.left) (sym n.marks)
-        (subst (λ cs. IsOver k.marks cs new.links l.left) (sym n.taken) (subst (λ ks. IsOver k.marks (k.taken.components ++ components) ks l.left) (sym n.links) p.left));
-    rows =
-        subst (λ ks. AreRowsBehind ks new.ancestors.rows l.left) (sym n.links)
-        (behind_added k.links k.ancestors.rows new.ancestors.rows l.found.rows l.left p.rows.stay p.rows.added n.least);
+    right = cells_beside new released right_after;
+    over = subst (λ marks. AreOver marks new.taken.components l.over.items) (sym n.marks) (subst (λ cs. AreOver k.marks cs l.over.items) (sym n.taken) p.over);
   }
 
   -- the state is the planned one

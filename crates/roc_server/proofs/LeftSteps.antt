@@ -12,12 +12,10 @@ use Rattle.roc_depgraph.specs.Closure.{IsRisingListOf}
 use Rattle.roc_depgraph.specs.Deps.{IsDecided}
 use Rattle.roc_step.specs.Links.{without_links}
 use Rattle.roc_step.proofs.ForgottenLinks.{decided_left, left_decided}
-use Rattle.roc_server.specs.Inner.Left.{links_left}
 
--- the lists were taken out and their entries left out by lists that are the forgotten ones
-pub links_are : (links left : List KnownList) (over gone done : List TxnId) → gone ≡ over → done ≡ over → left ≡ map (without_links (is_listed is_txn done)) (filter (λ k. not (is_listed is_txn gone k.of)) links)
-    → left ≡ links_left links over
-links_are links left over gone done first second h = h ∙ (λ i. map (without_links (is_listed is_txn (second i))) (filter (λ k. not (is_listed is_txn (first i) k.of)) links))
+-- what is followed of what stays
+abbrev pub links_left : (links : List KnownList) → (over : List TxnId) → List KnownList
+links_left links over = map (without_links (is_listed is_txn over)) (filter (λ k. not (is_listed is_txn over k.of)) links)
 
 module _ (links left : List KnownList) (over all : List TxnId) (left_is : left ≡ links_left links over) (decided : (t : TxnId) → IsListed is_txn all t → IsDecided links t) where
   abbrev forgotten : TxnId → Bool

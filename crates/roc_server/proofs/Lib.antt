@@ -19,9 +19,7 @@ mod SomeLeft
 mod ForgetSteps
 mod NoneOver
 mod SettledSteps
-mod LeftNew
 mod LeftOut
-mod NewlyDecided
 mod MissingSteps
 mod Alike
 mod Stands
@@ -36,9 +34,7 @@ mod KeyedGroups
 mod DoneSteps
 mod MarkedLinks
 mod SettledRuns
-mod FoundSettled
-mod BehindSteps
-mod ReleasedRows
+mod OneSettled
 mod HeldUp
 mod HeldByCell
 mod ReadSteps

@@ -40,7 +40,7 @@ module _ (plan : Plan) (shard : Shard) (k new : ServerData) (sound : IsConsisten
   abbrev IsStep : Msg → Planned → Type 0
   IsStep msg p = IsStepFor plan s msg (after shard new p.change) before sent p.answer
 
-  decided : AreDecided k.links k.decided.ids
+  decided : AreDecided k.table.links k.table.decided
   decided = record { rising = sound.right.decided_rising; sound = sound.right.decided_only; complete = sound.right.decided_all }
 
   -- of a message of a kind, by what was found
@@ -53,35 +53,35 @@ module _ (plan : Plan) (shard : Shard) (k new : ServerData) (sound : IsConsisten
       → IfOk r (λ p. StartTaken plan shard k (after shard new p.change) before sent id (call proc group args2 inputs2) p.answer) → IfOk r (IsStep msg)
   start_comes (Err e) msg id proc group args inputs args2 inputs2 is same same2 h = tt
   start_comes (Ok p) msg id proc group args inputs args2 inputs2 is same same2 h =
-      comes msg (Start id proc group args2 inputs2) (record { before = k.decided.ids; reached = h.reached; components = [] }) p (is ∙ (λ i. Start id proc group (sym same i) (sym same2 i)))
-      (record { before = decided; reached = h.led; components = nothing_new k.links }) h.shown
+      comes msg (Start id proc group args2 inputs2) (record { before = k.table.decided; reached = h.reached; components = [] }) p (is ∙ (λ i. Start id proc group (sym same i) (sym same2 i)))
+      (record { before = decided; reached = h.led; components = nothing_new k.table.links }) h.shown
 
   pub commit_comes : {E : Type 0} (r : Result Planned E) (msg : Msg) (id : TxnId) (edges : List Dependency) (facts facts2 : List KnownList) → msg ≡ Commit id edges facts → facts2 ≡ facts
       → IfOk r (λ p. Commits plan shard k (after shard new p.change) before sent id edges facts2 p.answer) → IfOk r (IsStep msg)
   commit_comes (Err e) msg id edges facts facts2 is same h = tt
   commit_comes (Ok p) msg id edges facts facts2 is same h =
-      comes msg (Commit id edges facts2) (record { before = k.decided.ids; reached = []; components = h.components }) p (is ∙ (λ i. Commit id edges (sym same i)))
-      (record { before = decided; reached = nothing_led k.links; components = h.are_new }) h.shown
+      comes msg (Commit id edges facts2) (record { before = k.table.decided; reached = []; components = h.components }) p (is ∙ (λ i. Commit id edges (sym same i)))
+      (record { before = decided; reached = nothing_led k.table.links; components = h.are_new }) h.shown
 
   pub known_comes : {E : Type 0} (r : Result Planned E) (msg : Msg) (id : TxnId) (edges : List Dependency) → msg ≡ Known id edges → IfOk r (λ p. Knows plan shard k (after shard new p.change) before sent id edges p.answer) → IfOk r (IsStep msg)
   known_comes (Err e) msg id edges is h = tt
   known_comes (Ok p) msg id edges is h =
-      comes msg (Known id edges) (record { before = k.decided.ids; reached = []; components = h.components }) p is (record { before = decided; reached = nothing_led k.links; components = h.are_new }) h.shown
+      comes msg (Known id edges) (record { before = k.table.decided; reached = []; components = h.components }) p is (record { before = decided; reached = nothing_led k.table.links; components = h.are_new }) h.shown
 
   pub fetch_comes : {E : Type 0} (r : Result Planned E) (msg : Msg) (id : TxnId) (asker : Shard) → msg ≡ Fetch id asker → IfOk r (λ p. ShowsStep (after_fetch s id asker) p.answer (after shard new p.change) before sent) → IfOk r (IsStep msg)
   fetch_comes (Err e) msg id asker is h = tt
   fetch_comes (Ok p) msg id asker is h =
-      comes msg (Fetch id asker) (record { before = k.decided.ids; reached = []; components = [] }) p is (record { before = decided; reached = nothing_led k.links; components = nothing_new k.links }) h
+      comes msg (Fetch id asker) (record { before = k.table.decided; reached = []; components = [] }) p is (record { before = decided; reached = nothing_led k.table.links; components = nothing_new k.table.links }) h
 
   pub ended_comes : {E : Type 0} (r : Result Planned E) (msg : Msg) (coord mark : ℕ) → msg ≡ Ended coord mark → IfOk r (λ p. ShowsStep (after_ended s coord mark) p.answer (after shard new p.change) before sent) → IfOk r (IsStep msg)
   ended_comes (Err e) msg coord mark is h = tt
   ended_comes (Ok p) msg coord mark is h =
-      comes msg (Ended coord mark) (record { before = k.decided.ids; reached = []; components = [] }) p is (record { before = decided; reached = nothing_led k.links; components = nothing_new k.links }) h
+      comes msg (Ended coord mark) (record { before = k.table.decided; reached = []; components = [] }) p is (record { before = decided; reached = nothing_led k.table.links; components = nothing_new k.table.links }) h
 
   pub settled_comes : {E : Type 0} (r : Result Planned E) (msg : Msg) (id : TxnId) (mark : ℕ) → msg ≡ Settled id mark → IfOk r (λ p. Settles plan shard k (after shard new p.change) before sent id mark p.answer) → IfOk r (IsStep msg)
   settled_comes (Err e) msg id mark is h = tt
   settled_comes (Ok p) msg id mark is h =
-      comes msg (Settled id mark) (record { before = k.decided.ids; reached = []; components = h.components }) p is (record { before = decided; reached = nothing_led k.links; components = h.are_new }) h.shown
+      comes msg (Settled id mark) (record { before = k.table.decided; reached = []; components = h.components }) p is (record { before = decided; reached = nothing_led k.table.links; components = h.are_new }) h.shown
 
 -- a read is judged, and that is all
 read_shown : (s : ServerState) (judged : Option Handled) (answer : Handled) (out : Collected) → answer ≡ unwrap_or judged Done → ShowsStep (read_judged s judged) answer s out out
@@ -95,8 +95,8 @@ read_comes plan shard k sound out (Err e) msg id round proc group args is same j
 read_comes plan shard k sound out (Ok p) msg id round proc group args is same judged =
     let s = state_of shard k in
     let read : Msg = Read id round proc group args in
-    let findings : Findings = record { before = k.decided.ids; reached = []; components = [] } in
+    let findings : Findings = record { before = k.table.decided; reached = []; components = [] } in
     let P : Change → Type 0 = λ change. ShowsStep (after_message plan s findings read) p.answer (after shard k change) out out in
     comes plan shard k k sound out out msg read findings p is
-    (record { before = decided plan shard k k sound out out; reached = nothing_led k.links; components = nothing_new k.links })
+    (record { before = decided plan shard k k sound out out; reached = nothing_led k.table.links; components = nothing_new k.table.links })
     (subst P (sym same) (read_shown s (read_refusal plan s (record { id = id; round = round; proc = proc; group = group; args = args })) p.answer out (judged round)))

@@ -45,13 +45,13 @@ module _ (shard : Shard) (old : ServerData) (h : IsRight old) (news : List Known
   s = state_of shard old
 
   abbrev known : List KnownList
-  known = old.known ++ news
+  known = old.table.known ++ news
 
   abbrev done : TxnId → Bool
   done = is_done s known
 
   abbrev links : List KnownList
-  links = old.links ++ links_of s news
+  links = old.table.links ++ links_of s news
 
   abbrev named : List Dependency
   named = united (all_entries news)
@@ -64,26 +64,26 @@ module _ (shard : Shard) (old : ServerData) (h : IsRight old) (news : List Known
   lacking_is =
       sym (filter_both (λ d. not (done d.from)) (is_missing s links) lacking (λ d. refl) named)
       ∙ ap (filter (is_missing s links)) (sym (united_left (λ d. not (done d.from)) (λ a b e. ap (λ t. not (done t)) e) (all_entries news)) ∙ ap united (sym (entries_left done news)))
-      ∙ missing_of_news s old.links (links_of s news) (keeps_front old.links (links_of s news)) h.none_left
+      ∙ missing_of_news s old.table.links (links_of s news) (keeps_front old.table.links (links_of s news)) h.none_left
 
   -- what is not ended is followed wherever it is named
   not_done : (t : TxnId) → is_ended old.marks t ≡ false → done t ≡ false
   not_done t e = ap (λ b. b && (not (is_here t s.started) && least_naming t (suc shard.0) (all_entries known) == shard.0)) e
 
   -- so of what is missing and not ended no list was known before
-  unnamed : (d : Dependency) → is_missing s links d ≡ true → is_ended old.marks d.from ≡ false → (e : Dependency) → Has e (all_entries old.known) → e.from ≢ d.from
+  unnamed : (d : Dependency) → is_missing s links d ≡ true → is_ended old.marks d.from ≡ false → (e : Dependency) → Has e (all_entries old.table.known) → e.from ≢ d.from
   unnamed d missing n e has same =
-      let followed = followed_among_all (is_ended old.marks) old.known old.links h.linked e has (ap (is_ended old.marks) same ∙ n) in
-      let left : is_missing s old.links e ≡ false = all_has (λ d. is_missing s old.links d ≡ false) e (all_entries old.links) h.none_left followed in
+      let followed = followed_among_all (is_ended old.marks) old.table.known old.table.links h.linked e has (ap (is_ended old.marks) same ∙ n) in
+      let left : is_missing s old.table.links e ≡ false = all_has (λ d. is_missing s old.table.links d ≡ false) e (all_entries old.table.links) h.none_left followed in
       let now = and_parts (not (is_known links d.from)) (not (is_here d.from s.started) && not (was_asked_for d.from s.lists.waiting.asked)) missing in
       let rest = and_parts (not (is_here d.from s.started)) (not (was_asked_for d.from s.lists.waiting.asked)) now.1 in
-      let left2 : (not (is_known old.links d.from) && (not (is_here d.from s.started) && not (was_asked_for d.from s.lists.waiting.asked))) ≡ false =
-      subst (λ (t : TxnId). (not (is_known old.links t) && (not (is_here t s.started) && not (was_asked_for t s.lists.waiting.asked))) ≡ false) same left in
-      clash (is_known old.links d.from) refl left2 (not-true (is_known links d.from) now.0) rest.0 rest.1
+      let left2 : (not (is_known old.table.links d.from) && (not (is_here d.from s.started) && not (was_asked_for d.from s.lists.waiting.asked))) ≡ false =
+      subst (λ (t : TxnId). (not (is_known old.table.links t) && (not (is_here t s.started) && not (was_asked_for t s.lists.waiting.asked))) ≡ false) same left in
+      clash (is_known old.table.links d.from) refl left2 (not-true (is_known links d.from) now.0) rest.0 rest.1
     where
-      clash : (b : Bool) → is_known old.links d.from ≡ b → (not (is_known old.links d.from) && (not (is_here d.from s.started) && not (was_asked_for d.from s.lists.waiting.asked))) ≡ false
+      clash : (b : Bool) → is_known old.table.links d.from ≡ b → (not (is_known old.table.links d.from) && (not (is_here d.from s.started) && not (was_asked_for d.from s.lists.waiting.asked))) ≡ false
           → is_known links d.from ≡ false → not (is_here d.from s.started) ≡ true → not (was_asked_for d.from s.lists.waiting.asked) ≡ true → ⊥
-      clash true e l k a b = false≢true (sym k ∙ known_stays old.links links (keeps_front old.links (links_of s news)) d.from e)
+      clash true e l k a b = false≢true (sym k ∙ known_stays old.table.links links (keeps_front old.table.links (links_of s news)) d.from e)
       clash false e l k a b = false≢true (sym l ∙ (λ i. not (e i) && (a i && b i)))
 
   -- the shard that is asked is the least of all
@@ -99,7 +99,7 @@ module _ (shard : Shard) (old : ServerData) (h : IsRight old) (news : List Known
           subst (Has d) (sym (united_left (λ d. not (done d.from)) (λ a b e. ap (λ t. not (done t)) e) (all_entries news)) ∙ ap united (sym (entries_left done news)))
           (has_filter (λ d. not (done d.from)) d named f.0 p.0) in
           ap (λ b. if b then asked_of known d else record { id = d.from; at = d.at }) e
-          ∙ (λ i. record { id = d.from; at = record { 0 = sym (least_of_news done old.known news d (unnamed d p.1 e) (not_done d.from e) there) i } })
+          ∙ (λ i. record { id = d.from; at = record { 0 = sym (least_of_news done old.table.known news d (unnamed d p.1 e) (not_done d.from e) there) i } })
 
   pub missing_is : (asks : List OpenFetch) (edges : List Dependency) (listed : List TxnId) → edges ≡ named → ((d : Dependency) → Has d (all_entries news) → is_listed is_txn listed d.from ≡ done d.from)
       → asks ≡ map (asked_by old.marks known) (filter (λ d. not (is_listed is_txn listed d.from) && is_missing s links d) edges) → asks ≡ missing_after s news

@@ -1,6 +1,6 @@
 -- Where nothing is over, nothing is forgotten
-use Rattle.std.proofs.Common.{◌≡◌, ◌≢◌, ℕ, Bool, true, false, not, List, [], ◌∷◌, map, None, refl, sym, ap, subst, ◌∙◌, inl}
-use Rattle.std.proofs.lemmas.Bool.{not_from_false}
+use Rattle.std.proofs.Common.{◌≡◌, ◌≢◌, ◌==◌, ℕ, Bool, true, false, not, List, [], ◌∷◌, length, map, filter, arith, refl, sym, ap, subst, ◌∙◌, inl}
+use Rattle.std.proofs.lemmas.Bool.{eqb-true, not_from_false}
 use Rattle.roc_sequence.specs.Lists.{Has}
 use Rattle.roc_sequence.specs.Places.{is_listed, IsListed}
 use Rattle.roc_sequence.proofs.Places.{listed_head}
@@ -11,24 +11,25 @@ use Rattle.roc_base.specs.Equalities.{is_txn-same}
 use Rattle.roc_base.proofs.Ids.{unlisted_none}
 use Rattle.roc_step.specs.declared.waits.OpenFetch.{OpenFetch}
 use Rattle.roc_depgraph.specs.declared.known.KnownList.{KnownList}
+use Rattle.roc_depgraph.specs.Closure.{IsRisingListOf}
 use Rattle.roc_step.specs.Links.{without_links}
 use Rattle.roc_step.proofs.WithoutLinks.{all_without_none}
 use Rattle.roc_server.specs.declared.server_data.ServerData.{ServerData}
 use Rattle.roc_step.specs.declared.started.StartedGroup.{StartedGroup}
 use Rattle.roc_step.specs.Forgets.{forget, is_over, over, without}
 use Rattle.roc_server.specs.Inner.Forgetting.{IsOverOf}
-use Rattle.roc_server.specs.Inner.Left.{IsOver}
-use Rattle.roc_server.specs.Inner.ServerData.{state_of, IsConsistent, IsRight}
+use Rattle.roc_server.specs.Inner.ServerData.{state_of, IsConsistent}
 use Rattle.roc_server.proofs.IndexSteps.{filter_all}
 use Rattle.roc_server.proofs.SomeLeft.{member_some}
 
-over_none : (marks : List ℕ) (taken : List (List TxnId)) (links : List KnownList) → IsOver marks taken links None → over marks taken ≡ []
-over_none marks taken links o = go (over marks taken) refl
-  where
-    go : (ts : List TxnId) → over marks taken ≡ ts → ts ≡ []
-    go [] e = refl
-    go (t ∷ ts) e =
-        absurd (unlisted_none t (subst (λ us. IsListed is_txn us t) o.rest (o.are.complete t (subst (λ us. IsListed is_txn us t) (sym e) (listed_head is_txn t ts (is_txn-same t))))))
+pub no_ids : (ids : List TxnId) (none : Bool) → none ≡ (length ids == 0) → none ≡ true → ids ≡ []
+no_ids [] none is e = refl
+no_ids (t ∷ ts) none is e = absurd (let n : length (t ∷ ts) ≡ 0 = eqb-true (length (t ∷ ts)) 0 (sym is ∙ e) in omega arith)
+
+-- no id is listed rising where none is listed
+over_none : (ids : List TxnId) → IsRisingListOf (IsListed is_txn ids) [] → ids ≡ []
+over_none [] h = refl
+over_none (t ∷ ts) h = absurd (unlisted_none t (h.complete t (listed_head is_txn t ts (is_txn-same t))))
 
 -- no component is over then, since each has a member
 open_all : (marks : List ℕ) (taken : List (List TxnId)) → over marks taken ≡ [] → ((c : List TxnId) → Has c taken → c ≢ []) → (c : List TxnId) → Has c taken → not (is_over marks c) ≡ true
@@ -39,29 +40,33 @@ open_all marks taken none some (t ∷ ts) h = not_from_false (is_over marks (t �
     go true e = absurd (unlisted_none t (subst (λ us. IsListed is_txn us t) none (member_some (is_over marks) taken (t ∷ ts) t h (inl refl) e)))
     go false e = refl
 
-none_gone : (shard : Shard) (k : ServerData) → ((c : List TxnId) → Has c k.taken.components → not (is_over k.marks c) ≡ true) → without [] (state_of shard k) ≡ state_of shard k
+none_gone : (shard : Shard) (k : ServerData) → ((c : List TxnId) → Has c k.taken.components → not (is_over k.marks c) ≡ true)
+    → without [] (state_of shard k) ≡ state_of shard k
 none_gone shard k stays i = record {
   shard = shard;
   store = k.rows.store;
   started = filter_all (λ (e : StartedGroup). not (is_listed is_txn [] e.id)) k.started.groups (λ e h. refl) i;
   lists = record {
-    known = filter_all (λ (x : KnownList). not (is_listed is_txn [] x.of)) k.known (λ x h. refl) i;
-    links = (ap (map (without_links (is_listed is_txn []))) (filter_all (λ (x : KnownList). not (is_listed is_txn [] x.of)) k.links (λ x h. refl)) ∙ all_without_none (is_listed is_txn []) k.links (λ d h. refl)) i;
+    known = filter_all (λ (x : KnownList). not (is_listed is_txn [] x.of)) k.table.known (λ x h. refl) i;
+    links = followed i;
     waiting = record { asked = filter_all (λ (a : OpenFetch). not (is_listed is_txn [] a.id)) k.waits.waiting.asked (λ a h. refl) i; askers = k.waits.waiting.askers };
     taken = filter_all (λ c. not (is_over k.marks c)) k.taken.components stays i;
   };
   below = k.marks;
 }
+  where
+    followed : map (without_links (is_listed is_txn [])) (filter (λ (x : KnownList). not (is_listed is_txn [] x.of)) k.table.links) ≡ k.table.links
+    followed =
+        ap (map (without_links (is_listed is_txn []))) (filter_all (λ (x : KnownList). not (is_listed is_txn [] x.of)) k.table.links (λ x h. refl))
+        ∙ all_without_none (is_listed is_txn []) k.table.links (λ d h. refl)
 
-module _ (k : ServerData) (o : IsOverOf k None) where
+module _ (k : ServerData) (gone : List TxnId) (is_none : gone ≡ []) (o : IsOverOf k gone) where
   none : over k.marks k.taken.components ≡ []
-  none = over_none k.marks k.taken.components k.links o.over
-
-  right : IsRight k
-  right = o.right k.ancestors o.rows
+  none = over_none (over k.marks k.taken.components) (subst (IsRisingListOf (IsListed is_txn (over k.marks k.taken.components))) is_none o.over)
 
   pub nothing_forgotten : (shard : Shard) → state_of shard k ≡ forget (state_of shard k)
-  nothing_forgotten shard = sym (ap (λ ids. without ids (state_of shard k)) none ∙ none_gone shard k (open_all k.marks k.taken.components none right.taken_some))
+  nothing_forgotten shard =
+      sym (ap (λ ids. without ids (state_of shard k)) none ∙ none_gone shard k (open_all k.marks k.taken.components none o.right.taken_some))
 
   pub nothing_over : IsConsistent k
-  nothing_over = record { right = right; none_over = none }
+  nothing_over = record { right = o.right; none_over = none }

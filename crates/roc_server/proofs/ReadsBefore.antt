@@ -9,7 +9,6 @@ use Rattle.roc_step.specs.Waits.{Awaited}
 use Rattle.roc_depgraph.specs.declared.known.KnownList.{KnownList}
 use Rattle.roc_depgraph.specs.Deps.{is_known, IsDecided}
 use Rattle.roc_depgraph.proofs.RisingLists.{rising_one}
-use Rattle.roc_server_lists.specs.Decided.{DecidedIds}
 use Rattle.roc_server_lists.proofs.FollowedLinks.{links_known}
 use Rattle.roc_step.specs.Below.{is_ended}
 use Rattle.roc_server.proofs.MissingSteps.{filter_alike}
@@ -37,7 +36,7 @@ use Rattle.roc_server.proofs.Stands.{group_refs_same}
 
 pub record IsUntouched (k was : ServerData) : Type 0 where
   pub waits : was.waits ≡ k.waits
-  pub decided : was.decided ≡ k.decided
+  pub decided : was.table.decided ≡ k.table.decided
   pub index : was.index ≡ k.index
   pub marks : was.marks ≡ k.marks
 
@@ -73,14 +72,14 @@ fits_now plan k ahead h fits = fits_same plan (kept_before k ahead).started.grou
 pub once_now : (k : ServerData) (ahead : Option Ahead) → IsHeld k ahead → NoneTwice is_same_group k.started.groups
 once_now k ahead h = once_same (kept_before k ahead).started.groups k.started.groups (same_before k ahead h) (held_sound k ahead h).right.groups_once
 
-pub index_now : (k : ServerData) (ahead : Option Ahead) → IsHeld k ahead → IsIndexOf k.index k.decided.ids k.started.groups
+pub index_now : (k : ServerData) (ahead : Option Ahead) → IsHeld k ahead → IsIndexOf k.index k.table.decided k.started.groups
 index_now k ahead h c =
     let was = kept_before k ahead in
     let u = untouched k ahead in
     (λ i. group_refs_at c (sym u.index i))
     ∙ (held_sound k ahead h).right.index c
-    ∙ (λ i. undecided (u.decided i).ids (group_refs_of c was.started.groups))
-    ∙ ap (undecided k.decided.ids) (sym (group_refs_same c was.started.groups k.started.groups (same_before k ahead h)))
+    ∙ (λ i. undecided (u.decided i) (group_refs_of c was.started.groups))
+    ∙ ap (undecided k.table.decided) (sym (group_refs_same c was.started.groups k.started.groups (same_before k ahead h)))
 
 -- ---- what is read of them
 
@@ -111,26 +110,26 @@ as_many_users plan left_out immediate (a ∷ cells) old new same =
 
 -- ---- what is decided
 
-pub decided_before : (k : ServerData) (ahead : Option Ahead) (id : TxnId) (found : Bool) → IsHeld k ahead → found ≡ is_listed is_txn k.decided.ids id → IsTrue found ↔ IsDecided (kept_before k ahead).links id
+pub decided_before : (k : ServerData) (ahead : Option Ahead) (id : TxnId) (found : Bool) → IsHeld k ahead → found ≡ is_listed is_txn k.table.decided id → IsTrue found ↔ IsDecided (kept_before k ahead).table.links id
 decided_before k ahead id found h is =
     let sound = (held_sound k ahead h).right in
-    let same : (kept_before k ahead).decided.ids ≡ k.decided.ids = ap (λ (d : DecidedIds). d.ids) (untouched k ahead).decided in (
-      λ t. sound.decided_only id (subst (λ ids. IsListed is_txn ids id) (sym same) (listed_true is_txn k.decided.ids id (sym is ∙ t))),
-      λ d. is ∙ listed_test is_txn k.decided.ids id (subst (λ ids. IsListed is_txn ids id) same (sound.decided_all id d)),
+    let same : (kept_before k ahead).table.decided ≡ k.table.decided = (untouched k ahead).decided in (
+      λ t. sound.decided_only id (subst (λ ids. IsListed is_txn ids id) (sym same) (listed_true is_txn k.table.decided id (sym is ∙ t))),
+      λ d. is ∙ listed_test is_txn k.table.decided id (subst (λ ids. IsListed is_txn ids id) same (sound.decided_all id d)),
     )
 
-pub kept_decided : (k : ServerData) (ahead : Option Ahead) → IsHeld k ahead → AreDecided (kept_before k ahead).links k.decided.ids
+pub kept_decided : (k : ServerData) (ahead : Option Ahead) → IsHeld k ahead → AreDecided (kept_before k ahead).table.links k.table.decided
 kept_decided k ahead h =
     let sound = (held_sound k ahead h).right in
-    subst (AreDecided (kept_before k ahead).links) (ap (λ (d : DecidedIds). d.ids) (untouched k ahead).decided) (record { rising = sound.decided_rising; sound = sound.decided_only; complete = sound.decided_all })
+    subst (AreDecided (kept_before k ahead).table.links) (untouched k ahead).decided (record { rising = sound.decided_rising; sound = sound.decided_only; complete = sound.decided_all })
 
 -- what is open is what was asked for and is not known
-pub open_before : (k : ServerData) (ahead : Option Ahead) → IsHeld k ahead → k.waits.fetches ≡ filter (λ a. not (is_known (kept_before k ahead).known a.id)) (kept_before k ahead).waits.waiting.asked
+pub open_before : (k : ServerData) (ahead : Option Ahead) → IsHeld k ahead → k.waits.fetches ≡ filter (λ a. not (is_known (kept_before k ahead).table.known a.id)) (kept_before k ahead).waits.waiting.asked
 open_before k ahead h =
     let was = kept_before k ahead in
     let right = (held_sound k ahead h).right in
     ap (λ (w : Awaited). w.fetches) (sym (untouched k ahead).waits) ∙ right.open_unknown
-    ∙ filter_alike (λ a. not (is_known was.links a.id)) (λ a. not (is_known was.known a.id)) was.waits.waiting.asked (λ a h. ap not (links_known (is_ended was.marks) was.known was.links right.linked a.id))
+    ∙ filter_alike (λ a. not (is_known was.table.links a.id)) (λ a. not (is_known was.table.known a.id)) was.waits.waiting.asked (λ a h. ap not (links_known (is_ended was.marks) was.table.known was.table.links right.linked a.id))
 
 -- what holds of the decided ones as they are kept holds of any list of exactly these
 pub for_decided : {A B E : Type 0} (r : Result A E) (read : A → B) (x : List TxnId → B) (known : List KnownList) (kept : List TxnId) → AreDecided known kept → IfOk r (λ a. read a ≡ x kept)

@@ -13,6 +13,7 @@ use Rattle.roc_msg.specs.declared.msg.Msg.TheVariants as msg
 use Rattle.roc_msg.specs.Outbox.{Collected, HasSent}
 use Rattle.roc_plan.specs.Groups.{Plan}
 use Rattle.roc_rows.specs.Held.{Held}
+use Rattle.roc_server_table.specs.Kept.{TableLists}
 use Rattle.roc_step.specs.declared.started.StartedGroup.{StartedGroup}
 use Rattle.roc_step.specs.Links.{without_links}
 use Rattle.roc_step.specs.New.{AreNewTaken}
@@ -32,14 +33,14 @@ use Rattle.roc_step.specs.Runs.{accesses_of, all_buffered, commitok, commitok_of
 use Rattle.roc_step.specs.State.{hearing, is_here, refused, unrun, ServerState}
 use Rattle.roc_step.specs.Step.{links_after}
 use Rattle.roc_server.specs.Inner.Shown.{ShowsStep}
-use Rattle.roc_await.specs.Lacks.{AreLacks}
-use Rattle.roc_server.specs.Inner.Behind.{IsBehind}
+use Rattle.roc_server.specs.Inner.Over.{AreOver}
 use Rattle.roc_server.specs.Inner.Runs.{restored}
 use Rattle.roc_server.specs.Inner.Planned.{after, unsettled, with_settled, IsPlannedFrom}
 use Rattle.roc_server.specs.Inner.ServerData.{state_of, holding, IsConsistent, IsSame}
 use Rattle.roc_server.specs.Inner.Settled.{links_settled, HasRoomToSettle, IsHearing, IsSettling, Settles, SettlesRuns}
 use Rattle.roc_server.specs.Inner.Taught.{KeepsBesideRuns, KeepsPlans, RunsDecided}
 use Rattle.roc_server.proofs.Alike.{alike_same}
+use Rattle.roc_server.proofs.OneSettled.{one_listed}
 use Rattle.roc_step.proofs.Raised.{ended_still}
 use Rattle.roc_server.proofs.SameGroups.{fits_same, fits_some, here_same}
 use Rattle.roc_server.proofs.TaughtParts.{back_to}
@@ -81,8 +82,8 @@ module _ (plan : Plan) (shard : Shard) (old : ServerData) (id : TxnId) (mark : �
     heard_is : forgetting (refused (hearing s id.coord mark) Gone) ≡ after_settled plan [] s id mark
     heard_is = ap (λ b. forgetting (if b then decides plan (hearing s id.coord mark) (lists_settled s id mark []) [] [] [] else refused (hearing s id.coord mark) Gone)) (sym unasked)
 
-    none_new : AreNewTaken (IsDecided old.links) (links_after s (msg.Settled id mark)) []
-    none_new = subst (λ ks. AreNewTaken (IsDecided old.links) ks []) (append-nil old.links ∙ ap (λ b. if b then map (without_links (is_settled s id mark)) old.links else old.links) (sym unasked)) (nothing_new old.links)
+    none_new : AreNewTaken (IsDecided old.table.links) (links_after s (msg.Settled id mark)) []
+    none_new = subst (λ ks. AreNewTaken (IsDecided old.table.links) ks []) (append-nil old.table.links ∙ ap (λ b. if b then map (without_links (is_settled s id mark)) old.table.links else old.table.links) (sym unasked)) (nothing_new old.table.links)
 
     pub hears_alone : (change : Change) → IsHearing old id.coord mark change → Settles plan shard old (after shard old change) sends sends id mark Gone
     hears_alone change h = record {
@@ -101,7 +102,7 @@ hearing_planned old coord mark sound (Lists l) h = absurd h
 hearing_planned old coord mark sound (Settled x) h = absurd h
 hearing_planned old coord mark sound (Marks m) h =
     record {
-      planned = record { sound = sound; risen = λ t e. ap (λ below. is_ended below t) h.0 ∙ ended_still old.marks coord mark t e; left = h.1.0; rows = h.1.1 };
+      planned = record { sound = sound; risen = λ t e. ap (λ below. is_ended below t) h.0 ∙ ended_still old.marks coord mark t e; over = h.1 };
       from = λ at. refl;
     }
 
@@ -137,10 +138,10 @@ module _ (plan : Plan) (shard : Shard) (old : ServerData) (id : TxnId) (mark : �
   listed t = is_listed is_txn x.settled.items t
 
   tests : listed ≡ is_settled was id mark
-  tests = λ i t. (f.settled t ∙ ap (λ below. is_txn t id && is_ended below t) f.marks) i
+  tests = λ i t. (one_listed x.marks id x.settled.items f.settled t ∙ ap (λ below. is_txn t id && is_ended below t) f.marks) i
 
-  links_are : links_settled old.links x.settled.items ≡ map (without_links (is_settled was id mark)) old.links
-  links_are = ap (λ p. map (without_links p) old.links) tests
+  links_are : links_settled old.table.links x.settled.items ≡ map (without_links (is_settled was id mark)) old.table.links
+  links_are = ap (λ p. map (without_links p) old.table.links) tests
 
   module _ (asked : was_asked_for id old.waits.waiting.asked ≡ true) (new : ServerData) (sends more : Collected) (earlier : Vec Earlier Global)
       (b : KeepsBesideRuns old new) (r : SettlesRuns plan shard old new sends more x.ids.items) where
@@ -151,13 +152,13 @@ module _ (plan : Plan) (shard : Shard) (old : ServerData) (id : TxnId) (mark : �
     knowing = record (hearing was id.coord mark) { lists = lists_settled was id mark components }
 
     waiting_is : (if x.is_known then new.waits.waiting else without_asked listed new.waits.waiting)
-        ≡ (if is_known old.known id then old.waits.waiting else without_asked (is_settled was id mark) old.waits.waiting)
+        ≡ (if is_known old.table.known id then old.waits.waiting else without_asked (is_settled was id mark) old.waits.waiting)
     waiting_is i = if f.is_known i then b.waiting i else without_asked (tests i) (b.waiting i)
 
     lists_are : (with_settled shard new found).lists ≡ lists_settled was id mark components
     lists_are i = record {
-      known = b.known i;
-      links = (ap (λ ks. links_settled ks x.settled.items) b.links ∙ links_are) i;
+      known = (b.table i).known;
+      links = (ap (λ (t : TableLists). links_settled t.links x.settled.items) b.table ∙ links_are) i;
       waiting = waiting_is i;
       taken = b.taken i ++ components;
     }
@@ -176,10 +177,10 @@ module _ (plan : Plan) (shard : Shard) (old : ServerData) (id : TxnId) (mark : �
     step_is : forgetting (decides plan (hearing was id.coord mark) (lists_settled was id mark components) components [] []) ≡ after_settled plan components was id mark
     step_is = ap (λ b. forgetting (if b then decides plan (hearing was id.coord mark) (lists_settled was id mark components) components [] [] else refused (hearing was id.coord mark) Gone)) (sym asked)
 
-    are_new : AreNewTaken (IsDecided old.links) (links_after was (msg.Settled id mark)) components
+    are_new : AreNewTaken (IsDecided old.table.links) (links_after was (msg.Settled id mark)) components
     are_new =
-        subst (λ ks. AreNewTaken (IsDecided old.links) ks components)
-        (links_are ∙ ap (λ b. if b then map (without_links (is_settled was id mark)) old.links else old.links) (sym asked))
+        subst (λ ks. AreNewTaken (IsDecided old.table.links) ks components)
+        (links_are ∙ ap (λ b. if b then map (without_links (is_settled was id mark)) old.table.links else old.table.links) (sym asked))
         (record {
           members = record {
             only = λ t l. let u = f.chosen.members.only t l in (u.0, λ d. u.1 (sound.right.decided_all t d));
@@ -212,20 +213,16 @@ module _ (plan : Plan) (shard : Shard) (old : ServerData) (id : TxnId) (mark : �
       undone =
           alike_same old (unsettled new found) (back_to new.rows.saved new.rows.store old.rows.store saved)
           (besides_alike old (unsettled new found) back
-          (record { known = b.known; links = b.links; waiting = b.waiting; fetches = b.fetches; decided = b.decided; ancestors = b.ancestors; lacks = b.lacks; index = b.index; marks = b.marks; taken = b.taken })) sound
+          (record { table = b.table; waiting = b.waiting; fetches = b.fetches; index = b.index; marks = b.marks; taken = b.taken })) sound
 
       still : IsSettling new id mark x
       still = record {
         marks = f.marks ∙ ap (λ below. raised below id.coord mark) (sym b.marks);
         settled = f.settled;
-        is_known = f.is_known ∙ ap (λ ks. is_known ks id) (sym b.known);
-        rising = f.rising;
-        lacks = subst (λ ks. AreLacks (links_settled ks x.settled.items) x.lacks.lacks) (sym b.links) f.lacks;
-        chosen = subst (λ decided. AreNewTaken (IsListed is_txn decided) (links_settled new.links x.settled.items) components) (sym b.decided)
-            (subst (λ ks. AreNewTaken (IsListed is_txn old.decided.ids) (links_settled ks x.settled.items) components) (sym b.links) f.chosen);
+        is_known = f.is_known ∙ ap (λ (t : TableLists). is_known t.known id) (sym b.table);
+        chosen = subst (λ (t : TableLists). AreNewTaken (IsListed is_txn t.decided) (links_settled t.links x.settled.items) components) (sym b.table) f.chosen;
         ids = f.ids;
-        behind = subst (λ taken. IsBehind x.marks (taken ++ components) new.links (links_settled new.links x.settled.items) x.behind) (sym b.taken)
-            (subst (λ ks. IsBehind x.marks (old.taken.components ++ components) ks (links_settled ks x.settled.items) x.behind) (sym b.links) f.behind);
+        over = subst (λ taken. AreOver x.marks (taken ++ components) x.over.items) (sym b.taken) f.over;
       }
 
       pub settled_planned : IsPlannedFrom old new (Settled found)

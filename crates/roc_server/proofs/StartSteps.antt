@@ -64,29 +64,29 @@ module _ (plan : Plan) (shard : Shard) (k : ServerData) (id : TxnId) (c : GroupC
 
   -- the entries of a new group, by the two tests
   abbrev by_tests : Option Handled → Option StartedGroup → List Dependency
-  by_tests f g = cond (is_none f && is_none g) (edges_for plan k.decided.ids s id c) []
+  by_tests f g = cond (is_none f && is_none g) (edges_for plan k.table.decided s id c) []
 
   -- it was not taken
   pub start_refused : (out : Collected) (answer : Handled) → start_refusal plan s id c ≡ Some answer → StartTaken plan shard k s out out id c answer
   start_refused out answer judged =
-      let P : List Dependency → Type 0 = λ es. AreLedTo k.links es [] in
+      let P : List Dependency → Type 0 = λ es. AreLedTo k.table.links es [] in
       let Q : ServerStep → Type 0 = λ r. ShowsStep r answer s out out in
       record {
         reached = [];
-        led = subst P (ap (λ f. by_tests f (find_group id c.group k.started.groups)) (sym judged)) (nothing_led k.links);
-        shown = subst Q (ap (start_judged plan k.decided.ids [] s id c) (sym judged)) (record { answers = refl; keeps = refl; sends = sym (append-nil out.messages); decides = sym (append-nil out.decided); ran = sym (append-nil out.ran) });
+        led = subst P (ap (λ f. by_tests f (find_group id c.group k.started.groups)) (sym judged)) (nothing_led k.table.links);
+        shown = subst Q (ap (start_judged plan k.table.decided [] s id c) (sym judged)) (record { answers = refl; keeps = refl; sends = sym (append-nil out.messages); decides = sym (append-nil out.decided); ran = sym (append-nil out.ran) });
       }
 
   -- a group that is here was told again
   pub start_repeated : (old new : Collected) (e : StartedGroup) → start_refusal plan s id c ≡ None → find_group id c.group k.started.groups ≡ Some e → HasSent old new (startok_of shard e ∷ []) → StartTaken plan shard k s old new id c Done
   start_repeated old new e judged there sent =
-      let P : List Dependency → Type 0 = λ es. AreLedTo k.links es [] in
+      let P : List Dependency → Type 0 = λ es. AreLedTo k.table.links es [] in
       let Q : ServerStep → Type 0 = λ r. ShowsStep r Done s old new in
       record {
         reached = [];
-        led = subst P (ap (λ g. by_tests None g) (sym there) ∙ ap (λ f. by_tests f (find_group id c.group k.started.groups)) (sym judged)) (nothing_led k.links);
+        led = subst P (ap (λ g. by_tests None g) (sym there) ∙ ap (λ f. by_tests f (find_group id c.group k.started.groups)) (sym judged)) (nothing_led k.table.links);
         shown =
-            subst Q (ap (start_taken plan k.decided.ids [] s id c) (sym there) ∙ ap (start_judged plan k.decided.ids [] s id c) (sym judged))
+            subst Q (ap (start_taken plan k.table.decided [] s id c) (sym there) ∙ ap (start_judged plan k.table.decided [] s id c) (sym judged))
             (record { answers = refl; keeps = refl; sends = sent.0; decides = sent.1 ∙ sym (append-nil old.decided); ran = sent.2 ∙ sym (append-nil old.ran) });
       }
 
@@ -95,30 +95,30 @@ module _ (plan : Plan) (shard : Shard) (k : ServerData) (id : TxnId) (c : GroupC
       → IfOk r (λ p. StartsNew plan shard k (after shard new p.change) old sent id c p.answer) → IfOk r (λ p. StartTaken plan shard k (after shard new p.change) old sent id c p.answer)
   start_made (Err e) new old sent judged absent h = tt
   start_made (Ok p) new old sent judged absent h =
-      let P : List Dependency → Type 0 = λ es. AreLedTo k.links es h.reached in
+      let P : List Dependency → Type 0 = λ es. AreLedTo k.table.links es h.reached in
       let Q : ServerStep → Type 0 = λ r. ShowsStep r p.answer (after shard new p.change) old sent in
       record {
         reached = h.reached;
         led = subst P (ap (λ g. by_tests None g) (sym absent) ∙ ap (λ f. by_tests f (find_group id c.group k.started.groups)) (sym judged)) h.led;
-        shown = subst Q (ap (start_taken plan k.decided.ids h.reached s id c) (sym absent) ∙ ap (start_judged plan k.decided.ids h.reached s id c) (sym judged)) h.shown;
+        shown = subst Q (ap (start_taken plan k.table.decided h.reached s id c) (sym absent) ∙ ap (start_judged plan k.table.decided h.reached s id c) (sym judged)) h.shown;
       }
 
 -- ---- a group that starts now
 
 module _ (plan : Plan) (shard : Shard) (k mid : ServerData) (noted : Held) (id : TxnId) (c : GroupCall) (e : StartedGroup) (old sent : Collected) (same : noted.store ≡ k.rows.store) (n : IsNewGroup plan shard (record k { rows = noted }) mid id c e) where
   abbrev from : Store → ServerState
-  from store = record { shard = shard; store = store; started = k.started.groups; lists = record { known = k.known; links = k.links; waiting = k.waits.waiting; taken = k.taken.components }; below = k.marks }
+  from store = record { shard = shard; store = store; started = k.started.groups; lists = record { known = k.table.known; links = k.table.links; waiting = k.waits.waiting; taken = k.taken.components }; below = k.marks }
 
   -- it stands behind the others, and what is told of it behind what was sent
   pub start_planned : TellsStart plan shard e old sent → StartsNew plan shard k (after shard mid (Group e)) old sent id c Done
   start_planned told =
-      let first : ShowsStep (start_new plan (from noted.store) c (new_group plan k.decided.ids n.reached (from noted.store) id c)) Done (after shard mid (Group e)) old sent = record {
+      let first : ShowsStep (start_new plan (from noted.store) c (new_group plan k.table.decided n.reached (from noted.store) id c)) Done (after shard mid (Group e)) old sent = record {
         answers = refl;
         keeps = λ i. record {
           shard = shard;
           store = sym n.store i;
           started = sym (λ j. n.started j ++ n.is j ∷ []) i;
-          lists = record { known = sym n.known i; links = sym n.links i; waiting = (sym n.waits i).waiting; taken = (sym n.taken i).components };
+          lists = record { known = (sym n.table i).known; links = (sym n.table i).links; waiting = (sym n.waits i).waiting; taken = (sym n.taken i).components };
           below = sym n.marks i;
         };
         sends = told.messages ∙ ap (λ (g : StartedGroup). old.messages ++ startok_of shard g ∷ []) n.is;
@@ -127,8 +127,8 @@ module _ (plan : Plan) (shard : Shard) (k mid : ServerData) (noted : Held) (id :
       } in
       record {
         reached = n.reached;
-        led = subst (λ store. AreLedTo k.links (edges_for plan k.decided.ids (from store) id c) n.reached) same n.led;
-        shown = subst (λ store. ShowsStep (start_new plan (from store) c (new_group plan k.decided.ids n.reached (from store) id c)) Done (after shard mid (Group e)) old sent) same first;
+        led = subst (λ store. AreLedTo k.table.links (edges_for plan k.table.decided (from store) id c) n.reached) same n.led;
+        shown = subst (λ store. ShowsStep (start_new plan (from store) c (new_group plan k.table.decided n.reached (from store) id c)) Done (after shard mid (Group e)) old sent) same first;
       }
 
 -- ---- a start that is taken is not late
@@ -199,8 +199,8 @@ here_more : (id : TxnId) (xs : List StartedGroup) (e : StartedGroup) → is_here
 here_more id xs e h = let a = any_has (λ (x : StartedGroup). is_txn x.id id) xs h in has_any (λ (x : StartedGroup). is_txn x.id id) (xs ++ e ∷ []) a.0 (has_left a.0 xs (e ∷ []) a.1) a.2
 
 -- of one whose list is unknown nothing is decided
-not_decided : (k : ServerData) (id : TxnId) → IsRight k → is_known k.known id ≡ false → is_listed is_txn k.decided.ids id ≡ false
-not_decided k id sound unknown = unlisted_test is_txn k.decided.ids id (λ l. false≢true (sym (links_known (is_ended k.marks) k.known k.links sound.linked id ∙ unknown) ∙ (sound.decided_only id l).own))
+not_decided : (k : ServerData) (id : TxnId) → IsRight k → is_known k.table.known id ≡ false → is_listed is_txn k.table.decided id ≡ false
+not_decided k id sound unknown = unlisted_test is_txn k.table.decided id (λ l. false≢true (sym (links_known (is_ended k.marks) k.table.known k.table.links sound.linked id ∙ unknown) ∙ (sound.decided_only id l).own))
 
 -- a group that stands behind the others, with its references
 pub start_sound : (k : ServerData) (started : Entered) (index : List (Cell × CellRefs)) (e : StartedGroup) → IsGroupPlanned k e → started.groups ≡ k.started.groups ++ e ∷ [] → IsAddedAt (group_ref_of e) e.cells k.index index
@@ -213,18 +213,16 @@ start_sound k started index e p is added =
         decided_rising = h.decided_rising;
         decided_only = h.decided_only;
         decided_all = h.decided_all;
-        rows = h.rows;
-        lacks = h.lacks;
         index =
-            subst (IsIndexOf index k.decided.ids) (sym is)
-            (index_started k.index index k.decided.ids k.started.groups e h.index (not_decided k e.id h p.unknown) added);
+            subst (IsIndexOf index k.table.decided) (sym is)
+            (index_started k.index index k.table.decided k.started.groups e h.index (not_decided k e.id h p.unknown) added);
         none_left =
             all_weaker (λ d. is_left k d ≡ false) (λ d. is_left (record k { started = started; index = index }) d ≡ false)
-            (λ d. left_still (is_known k.links d.from) (is_here d.from k.started.groups) (was_asked_for d.from k.waits.waiting.asked) (is_known k.links d.from) (is_here d.from started.groups) (was_asked_for d.from k.waits.waiting.asked)
+            (λ d. left_still (is_known k.table.links d.from) (is_here d.from k.started.groups) (was_asked_for d.from k.waits.waiting.asked) (is_known k.table.links d.from) (is_here d.from started.groups) (was_asked_for d.from k.waits.waiting.asked)
             (λ h. h)
             (λ h. subst (λ xs. is_here d.from xs ≡ true) (sym is) (here_more d.from k.started.groups e h))
             (λ h. h))
-            (all_entries k.links) h.none_left;
+            (all_entries k.table.links) h.none_left;
         open_unknown = h.open_unknown;
         linked = h.linked;
         taken_decided = h.taken_decided;
@@ -237,11 +235,11 @@ start_sound k started index e p is added =
 
 -- it has no reference yet
 pub start_unmet : (k : ServerData) (e : StartedGroup) → IsGroupPlanned k e → (c : Cell) → AllByRecursion (λ s. is_same_ref s (group_ref_of e) ≡ false) (group_refs_at c k.index)
-start_unmet k e p c = none_yet k.index k.decided.ids k.started.groups e p.sound.right.index p.absent c
+start_unmet k e p c = none_yet k.index k.table.decided k.started.groups e p.sound.right.index p.absent c
 
 -- it was planned, and there is room for it
 pub group_planned : (plan : Plan) (shard : Shard) (k mid : ServerData) (noted : Held) (id : TxnId) (c : GroupCall) (e : StartedGroup) → noted.saved ≡ Some k.rows.store → mid.rows.saved ≡ noted.saved
-    → IsNewGroup plan shard (record k { rows = noted }) mid id c e → KeepsBeside (record k { rows = noted }) mid → IsConsistent k → find_group id c.group k.started.groups ≡ None → is_known k.known id ≡ false
+    → IsNewGroup plan shard (record k { rows = noted }) mid id c e → KeepsBeside (record k { rows = noted }) mid → IsConsistent k → find_group id c.group k.started.groups ≡ None → is_known k.table.known id ≡ false
     → 0 < mid.started.spare → HasRoomFor e.cells mid.index → IsPlannedFrom k mid (Group e)
 group_planned plan shard k mid noted id c e saved kept n b sound absent unknown place room =
     let same : IsSame k (record mid { rows = rolled mid.rows }) = tried_in_vain k mid noted (rolled mid.rows) saved kept refl b sound in
@@ -251,7 +249,7 @@ group_planned plan shard k mid noted id c e saved kept n b sound absent unknown 
       planned = record {
         sound = cells_aside (record mid { rows = rolled mid.rows }) mid.rows same.sound;
         absent = (λ i. find_group (own i) (number i) (n.started i)) ∙ absent;
-        unknown = (λ i. is_known (n.known i) (own i)) ∙ unknown;
+        unknown = (λ i. is_known (n.table i).known (own i)) ∙ unknown;
         place = place;
         room = room;
       };

@@ -1,8 +1,9 @@
 -- Lists that are taught, from the parts of what is done
-use Rattle.std.proofs.Common.{◌≡◌, ◌++◌, ◌+◌, ◌-◌, ◌==◌, ◌&&◌, ℕ, suc, not, List, Option, Some, Result, Ok, Err, IsOk, OnOk, unwrap_or, length, map, filter, take, refl, sym, ap, subst, ◌∙◌, arith}
+use Rattle.std.proofs.Common.{◌≡◌, ◌++◌, ◌+◌, ◌-◌, ◌==◌, ◌&&◌, ℕ, suc, false, not, List, [], Option, Some, Result, Ok, Err, IsOk, OnOk, unwrap_or, length, map, filter, take, refl, sym, ap, subst, ◌∙◌, arith}
 use Rattle.std.proofs.lemmas.Bool.{false≢true, and_parts}
 use Rattle.std.proofs.lemmas.List.{length-append, length-map, take_at}
-use Rattle.roc_sequence.specs.Places.{is_listed, IsListed}
+use Rattle.roc_sequence.specs.Lists.{Has}
+use Rattle.roc_sequence.specs.Places.{is_listed, IsListed, NoneTwice}
 use Rattle.roc_base.specs.declared.id.TxnId.{TxnId}
 use Rattle.roc_base.specs.declared.node.Shard.{Shard}
 use Rattle.roc_base.specs.TxnId.{is_txn}
@@ -11,11 +12,8 @@ use Rattle.roc_step.specs.Learning.{AreLearnable}
 use Rattle.roc_depgraph.specs.declared.known.KnownList.{KnownList}
 use Rattle.roc_depgraph.specs.Deps.{is_known}
 use Rattle.roc_step.specs.Waits.{Waiting, was_asked_for}
-use Rattle.roc_await.specs.Lacks.{AreLacks}
 use Rattle.roc_step.specs.declared.waits.OpenFetch.{OpenFetch}
 use Rattle.roc_base.specs.Edges.{united}
-use Rattle.roc_server_ancestors.specs.Least.{row_of}
-use Rattle.roc_depgraph.proofs.Laws.{decided_stays}
 use Rattle.roc_msg.specs.Outbox.{Collected, HasSent}
 use Rattle.roc_plan.specs.Groups.{Plan}
 use Rattle.roc_rows.specs.Held.{Held}
@@ -24,25 +22,27 @@ use Rattle.roc_step.specs.Asking.{asked_of, waiting_after}
 use Rattle.roc_step.specs.Links.{all_entries, least_naming, without_links, AreLinksOf}
 use Rattle.roc_step.specs.New.{AreNewTaken}
 use Rattle.roc_server_lists.proofs.FollowedLinks.{links_ids, links_learnable, links_learnt}
-use Rattle.roc_server_lists.proofs.Learning.{keeps_front}
 use Rattle.roc_step.proofs.SameIds.{ids_without}
+use Rattle.roc_server_table.specs.Kept.{TableLists}
+use Rattle.roc_server_table.proofs.Unlearnt.{unlearnt as taken_out}
 use Rattle.roc_server.specs.declared.found.Found.{Found}
 use Rattle.roc_server.specs.declared.learning.Named.{Named}
 use Rattle.roc_server.specs.declared.server_data.ServerData.{ServerData}
 use Rattle.roc_step.specs.declared.started.StartedGroup.{StartedGroup}
 use Rattle.roc_step.specs.Below.{is_ended}
+use Rattle.roc_step.specs.Forgets.{over}
 use Rattle.roc_step.specs.Lists.{is_done, is_missing, links_of, missing_after}
 use Rattle.roc_step.specs.Runs.{accesses_of, all_buffered, take_all}
 use Rattle.roc_step.specs.State.{is_here, unrun}
 use Rattle.roc_server.specs.declared.planned.Lesson.{Lesson}
-use Rattle.roc_server.specs.Inner.Left.{IsOver}
+use Rattle.roc_server.specs.Inner.Over.{AreOver}
 use Rattle.roc_server.specs.Inner.Planned.{front, unlearnt, with_lists, AreListsPlanned}
 use Rattle.roc_server.specs.Inner.Runs.{restored}
-use Rattle.roc_server.specs.Inner.ServerData.{state_of, holding, AreSameGroups, IsConsistent, IsSame}
-use Rattle.roc_server.specs.Inner.Taught.{all_told, asked_by, Acts, AreLearnt, AreListsRight, AreRowsFound, Finds, HasRoomToKeep, IsLearning, KeepsBesideRuns, Learns, RunsDecided, Taken}
+use Rattle.roc_server.specs.Inner.ServerData.{is_same_group, state_of, holding, AreSameGroups, IsConsistent, IsSame}
+use Rattle.roc_server.specs.Inner.Taught.{all_told, asked_by, Acts, AreIdsSame, AreLearnt, Finds, HasRoomToKeep, KeepsBesideRuns, Learns, RunsDecided, Taken}
 use Rattle.roc_server.proofs.Alike.{alike_same}
 use Rattle.roc_server.proofs.MissingSteps.{missing_is}
-use Rattle.roc_server.proofs.Undone.{besides_alike}
+use Rattle.roc_server.proofs.Undone.{besides_alike, none_decided}
 
 -- what holds of a call that succeeds
 pub on_done : {A E P : Type 0} (r : Result A E) → IsOk r → OnOk r P → P
@@ -81,95 +81,84 @@ acts plan shard old new held started none some sends news again found ids is ran
 
 -- ---- the lists are learnt
 
-module _ (shard : Shard) (old mid : ServerData) (held : Held) (news : List KnownList) (named : Named) (sound : IsConsistent old) (learnable : AreLearnable old.known news) (l : Learns shard old mid news named) where
+module _ (shard : Shard) (old mid : ServerData) (held : Held) (news : List KnownList) (named : Named) (sound : IsConsistent old) (learnable : AreLearnable old.table.known news) (l : Learns shard old mid news named) where
   -- what was learnt, behind a savepoint
   abbrev pub learnt : ServerData
   learnt = record mid { rows = held }
 
   abbrev links : List KnownList
-  links = old.links ++ links_of (state_of shard old) news
-
-  known_is : mid.known ≡ old.known ++ news
-  known_is = ap (λ (k : ServerData). k.known) l.is
-
-  links_is : mid.links ≡ links
-  links_is = ap (λ (k : ServerData). k.links) l.is
+  links = old.table.links ++ links_of (state_of shard old) news
 
   -- all else is as it was
   abbrev was : ServerData
-  was = record old { known = old.known ++ news; links = links; rows = held }
+  was = record old { table = record old.table { known = old.table.known ++ news; links = links }; rows = held }
 
   learnt_is : learnt ≡ was
   learnt_is i = record (l.is i) { rows = held }
 
-  pub linked_learnable : AreLearnable old.links (links_of (state_of shard old) news)
-  linked_learnable = links_learnable (is_ended old.marks) (is_done (state_of shard old) (old.known ++ news)) old.known old.links news sound.right.linked learnable
+  pub linked_learnable : AreLearnable old.table.links (links_of (state_of shard old) news)
+  linked_learnable = links_learnable (is_ended old.marks) (is_done (state_of shard old) (old.table.known ++ news)) old.table.known old.table.links news sound.right.linked learnable
 
   pub ids_are : map (λ (k : KnownList). k.of) (links_of (state_of shard old) news) ≡ map (λ (k : KnownList). k.of) news
-  ids_are = ids_without (is_done (state_of shard old) (old.known ++ news)) news
+  ids_are = ids_without (is_done (state_of shard old) (old.table.known ++ news)) news
 
-  pub learning : IsLearning learnt news
-  learning = subst (λ k. IsLearning k news) (sym learnt_is)
-      (record {
-        before = old.links;
-        linked = links_of (state_of shard old) news;
-        links_are = refl;
-        ids_are = ids_are;
-        learnable = linked_learnable;
-        groups_once = sound.right.groups_once;
-        decided_only = sound.right.decided_only;
-        decided_all = sound.right.decided_all;
-        rows = sound.right.rows;
-        lacks = sound.right.lacks;
-        index = sound.right.index;
-      })
-
-  linked : AreLinksOf (is_ended old.marks) (old.known ++ news) links
+  linked : AreLinksOf (is_ended old.marks) (old.table.known ++ news) links
   linked =
-      links_learnt (is_ended old.marks) (is_done (state_of shard old) (old.known ++ news))
-      (λ u e. (and_parts (is_ended old.marks u) (not (is_here u old.started.groups) && least_naming u (suc shard.0) (all_entries (old.known ++ news)) == shard.0) e).0) old.known old.links news sound.right.linked
+      links_learnt (is_ended old.marks) (is_done (state_of shard old) (old.table.known ++ news))
+      (λ u e. (and_parts (is_ended old.marks u) (not (is_here u old.started.groups) && least_naming u (suc shard.0) (all_entries (old.table.known ++ news)) == shard.0) e).0) old.table.known old.table.links news sound.right.linked
 
-  pub lists_right : AreListsRight learnt
-  lists_right = subst AreListsRight (sym learnt_is)
-      (record {
-        same = links_ids (is_ended old.marks) (old.known ++ news) links linked;
-        none_over = sound.none_over;
-        still = λ t d. decided_stays old.links links (keeps_front old.links (links_of (state_of shard old) news)) t (sound.right.decided_only t d);
-        taken_decided = sound.right.taken_decided;
-        decided_taken = sound.right.decided_taken;
-      })
+  -- what a look at them needs
+  pub same_ids : AreIdsSame learnt.table
+  same_ids = subst (λ (k : ServerData). AreIdsSame k.table) (sym learnt_is) (links_ids (is_ended old.marks) (old.table.known ++ news) links linked)
+
+  pub still_open : over learnt.marks learnt.taken.components ≡ []
+  still_open = ap (λ (k : ServerData). over k.marks k.taken.components) learnt_is ∙ sound.none_over
+
+  pub still_once : NoneTwice is_same_group learnt.started.groups
+  still_once = subst (λ (k : ServerData). NoneTwice is_same_group k.started.groups) (sym learnt_is) sound.right.groups_once
 
   -- ---- what is found and done is what was planned
 
   module _ (acted : ServerData) (b : KeepsBesideRuns learnt acted) where
-    pub acted_known : acted.known ≡ old.known ++ news
-    acted_known = b.known ∙ known_is
+    acted_is : acted.table ≡ was.table
+    acted_is = b.table ∙ ap (λ (k : ServerData). k.table) learnt_is
 
-    pub acted_links : acted.links ≡ links
-    acted_links = b.links ∙ links_is
+    acted_known : acted.table.known ≡ old.table.known ++ news
+    acted_known i = (acted_is i).known
+
+    acted_links : acted.table.links ≡ links
+    acted_links i = (acted_is i).links
 
     -- without what was learnt, all but the cells and the groups is as it was
-    pub beside : KeepsBesideRuns old (record acted { known = old.known; links = old.links })
-    beside =
+    pub beside : (table : TableLists) → table ≡ old.table → KeepsBesideRuns old (record acted { table = table })
+    beside table same =
         record {
-          known = refl;
-          links = refl;
+          table = same;
           waiting = b.waiting ∙ ap (λ (k : ServerData). k.waits.waiting) learnt_is;
           fetches = b.fetches ∙ ap (λ (k : ServerData). k.waits.fetches) learnt_is;
-          decided = b.decided ∙ ap (λ (k : ServerData). k.decided.ids) learnt_is;
-          ancestors = λ t. b.ancestors t ∙ ap (λ (k : ServerData). row_of t k.ancestors.rows) learnt_is;
-          lacks = b.lacks ∙ ap (λ (k : ServerData). k.lacks) learnt_is;
           index = b.index ∙ ap (λ (k : ServerData). k.index) learnt_is;
           marks = b.marks ∙ ap (λ (k : ServerData). k.marks) learnt_is;
           taken = b.taken ∙ ap (λ (k : ServerData). k.taken.components) learnt_is;
         }
 
-    -- what was learnt is what was learnt last
-    abbrev pub learnt_last : (items : List KnownList) → items ≡ news → AreLearnt acted items
-    learnt_last items same = record {
-      known = record { before = old.known; known_are = acted_known ∙ (λ i. old.known ++ sym same i); learnable = subst (AreLearnable old.known) (sym same) learnable };
-      links = record { before = old.links; linked = links_of (state_of shard old) news; links_are = acted_links; of = ids_are ∙ ap (map (λ (k : KnownList). k.of)) (sym same); learnable = linked_learnable };
-    }
+    -- and nothing that was learnt is decided
+    module _ (items : List KnownList) (same : items ≡ news) where
+      pub none_learnt : (n : KnownList) → Has n items → is_listed is_txn acted.table.decided n.of ≡ false
+      none_learnt n has =
+          ap (λ (t : TableLists). is_listed is_txn t.decided n.of) acted_is
+          ∙ none_decided old.table.decided old.table.links (links_of (state_of shard old) news) news sound.right.decided_only ids_are linked_learnable n (subst (Has n) same has)
+
+      abbrev others : List KnownList → List KnownList
+      others ks = filter (λ (k : KnownList). not (is_known items k.of)) ks
+
+      -- where it is taken back, the table is as it was
+      pub taken_back : (table : TableLists) → table.known ≡ others acted.table.known → table.links ≡ others acted.table.links → table.decided ≡ acted.table.decided → table ≡ old.table
+      taken_back table known links decided =
+          let some : List KnownList → List KnownList → List KnownList = λ ns ks. filter (λ (k : KnownList). not (is_known ns k.of)) ks in
+          let known_is : table.known ≡ old.table.known = known ∙ (λ i. some (same i) (acted_known i)) ∙ taken_out old.table.known news news refl learnable in
+          let links_is : table.links ≡ old.table.links = links ∙ (λ i. some (same i) (acted_links i)) ∙ taken_out old.table.links (links_of (state_of shard old) news) news ids_are linked_learnable in
+          let decided_is : table.decided ≡ old.table.decided = decided ∙ ap (λ (t : TableLists). t.decided) acted_is in
+          λ i. record { known = known_is i; links = links_is i; decided = decided_is i }
 
     module _ (x : Lesson) (f : Finds learnt named x.found) where
       abbrev components : List (List TxnId)
@@ -178,10 +167,10 @@ module _ (shard : Shard) (old mid : ServerData) (held : Held) (news : List Known
       asks_are : x.found.asks.items ≡ missing_after (state_of shard old) news
       asks_are =
           missing_is shard old sound.right news x.found.asks.items named.edges named.done.items l.edges l.done
-          (subst (λ (k : ServerData). x.found.asks.items ≡ map (asked_by k.marks k.known) (filter (λ d. not (is_listed is_txn named.done.items d.from) && is_missing (state_of shard k) k.links d) named.edges)) learnt_is (f.missing shard))
+          (subst (λ (k : ServerData). x.found.asks.items ≡ map (asked_by k.marks k.table.known) (filter (λ d. not (is_listed is_txn named.done.items d.from) && is_missing (state_of shard k) k.table.links d) named.edges)) learnt_is (f.missing shard))
 
-      chosen : AreNewTaken (IsListed is_txn old.decided.ids) links components
-      chosen = subst (λ (k : ServerData). AreNewTaken (IsListed is_txn k.decided.ids) k.links components) learnt_is f.chosen
+      chosen : AreNewTaken (IsListed is_txn old.table.decided) links components
+      chosen = subst (λ (k : ServerData). AreNewTaken (IsListed is_txn k.table.decided) k.table.links components) learnt_is f.chosen
 
       pub planned_taken : (plan : Plan) (before sent : Collected) (again : Option TxnId) → held.store ≡ old.rows.store → x.news.items ≡ news
           → Acts plan shard learnt acted before sent news again x.found → Taken plan shard old (with_lists shard acted x) before sent news again
@@ -213,11 +202,16 @@ module _ (shard : Shard) (old mid : ServerData) (held : Held) (news : List Known
         abbrev undone : ServerData
         undone = unlearnt acted x
 
-        undone_known : undone.known ≡ old.known
-        undone_known = front_is old.known news acted.known (length x.news.items) count acted_known
+        undone_known : undone.table.known ≡ old.table.known
+        undone_known = front_is old.table.known news acted.table.known (length x.news.items) count acted_known
 
-        undone_links : undone.links ≡ old.links
-        undone_links = front_is old.links (links_of (state_of shard old) news) acted.links (length x.news.items) (count ∙ sym (length-map news (without_links (is_done (state_of shard old) (old.known ++ news))))) acted_links
+        undone_links : undone.table.links ≡ old.table.links
+        undone_links =
+            front_is old.table.links (links_of (state_of shard old) news) acted.table.links (length x.news.items)
+            (count ∙ sym (length-map news (without_links (is_done (state_of shard old) (old.table.known ++ news))))) acted_links
+
+        undone_table : undone.table ≡ old.table
+        undone_table i = record { known = undone_known i; links = undone_links i; decided = (acted_is i).decided }
 
         -- the lists that are missing, by the parts that this goes by
         abbrev missing_by : (known links : List KnownList) → List StartedGroup → Waiting → List OpenFetch
@@ -227,32 +221,40 @@ module _ (shard : Shard) (old mid : ServerData) (held : Held) (news : List Known
         -- what was tried can be undone
         pub same_before : IsSame old undone
         same_before =
+            let k = beside undone.table undone_table in
             alike_same old undone (back_to acted.rows.saved acted.rows.store old.rows.store (kept ∙ saved))
-            (besides_alike old undone back (record { known = undone_known; links = undone_links; waiting = beside.waiting; fetches = beside.fetches; decided = beside.decided; ancestors = beside.ancestors; lacks = beside.lacks; index = beside.index; marks = beside.marks; taken = beside.taken })) sound
+            (besides_alike old undone back (record { table = k.table; waiting = k.waiting; fetches = k.fetches; index = k.index; marks = k.marks; taken = k.taken })) sound
 
         pub are_learnt : AreLearnt acted x.news.items
         are_learnt = record {
-          known = record { before = undone.known; known_are = acted_known ∙ (λ i. sym undone_known i ++ sym same i); learnable = subst (λ ks. AreLearnable ks x.news.items) (sym undone_known) (subst (AreLearnable old.known) (sym same) learnable) };
-          links = record { before = undone.links; linked = links_of (state_of shard old) news; links_are = acted_links ∙ ap (λ ks. ks ++ links_of (state_of shard old) news) (sym undone_links); of = ids_are ∙ ap (map (λ (k : KnownList). k.of)) (sym same); learnable = subst (λ ks. AreLearnable ks (links_of (state_of shard old) news)) (sym undone_links) linked_learnable };
+          known = record {
+            before = undone.table.known;
+            known_are = acted_known ∙ (λ i. sym undone_known i ++ sym same i);
+            learnable = subst (λ ks. AreLearnable ks x.news.items) (sym undone_known) (subst (AreLearnable old.table.known) (sym same) learnable);
+          };
+          links = record {
+            before = undone.table.links;
+            linked = links_of (state_of shard old) news;
+            links_are = acted_links ∙ ap (λ ks. ks ++ links_of (state_of shard old) news) (sym undone_links);
+            of = ids_are ∙ ap (map (λ (k : KnownList). k.of)) (sym same);
+            learnable = subst (λ ks. AreLearnable ks (links_of (state_of shard old) news)) (sym undone_links) linked_learnable;
+          };
         }
 
-        pub lists_planned : AreSameGroups old.started.groups acted.started.groups → HasRoomToKeep acted x.found → IsOver acted.marks (acted.taken.components ++ components) acted.links x.left → AreRowsFound acted x.found.rows x.left
-            → AreListsPlanned acted x
+        pub lists_planned : AreSameGroups old.started.groups acted.started.groups → HasRoomToKeep acted x.found → AreOver acted.marks (acted.taken.components ++ components) x.over.items → AreListsPlanned acted x
         unfolding are_learnt
-        lists_planned groups room left rows = record {
-          sound = same_before.sound;
-          learnt = are_learnt;
-          known_before = refl;
-          links_before = refl;
-          groups = groups ∙ ap (map unrun) (sym back);
-          missing = λ at. asks_are ∙ (λ i. missing_by (sym acted_known i) (sym acted_links i) (sym back i) (sym beside.waiting i));
-          chosen = subst (λ ids. AreNewTaken (IsListed is_txn ids) acted.links components) (sym (b.decided ∙ ap (λ (k : ServerData). k.decided.ids) learnt_is)) (subst (λ ks. AreNewTaken (IsListed is_txn old.decided.ids) ks components) (sym acted_links) chosen);
-          ids = f.ids;
-          linked =
-              subst (λ marks. AreLinksOf (is_ended marks) acted.known acted.links) (sym beside.marks)
-              (subst (λ ks. AreLinksOf (is_ended old.marks) ks acted.links) (sym acted_known) (subst (AreLinksOf (is_ended old.marks) (old.known ++ news)) (sym acted_links) linked));
-          lacks = subst (λ ks. AreLacks ks x.found.lacks.lacks) (sym b.links) f.lacks;
-          rows = rows;
-          room = room;
-          left = left;
-        }
+        lists_planned groups room over =
+            let k = beside old.table refl in
+            record {
+              sound = same_before.sound;
+              learnt = are_learnt;
+              known_before = refl;
+              links_before = refl;
+              groups = groups ∙ ap (map unrun) (sym back);
+              missing = λ at. asks_are ∙ (λ i. missing_by (sym acted_known i) (sym acted_links i) (sym back i) (sym k.waiting i));
+              chosen = subst (λ (t : TableLists). AreNewTaken (IsListed is_txn t.decided) t.links components) (sym acted_is) chosen;
+              ids = f.ids;
+              linked = subst (λ marks. AreLinksOf (is_ended marks) acted.table.known acted.table.links) (sym k.marks) (subst (λ (t : TableLists). AreLinksOf (is_ended old.marks) t.known t.links) (sym acted_is) linked);
+              room = room;
+              over = over;
+            }

@@ -26,12 +26,12 @@ module _ (plan : Plan) (shard : Shard) (old : ServerData) (state : ServerState) 
   s = state_of shard old
 
   abbrev links : List KnownList
-  links = old.links ++ links_of s news
+  links = old.table.links ++ links_of s news
 
   abbrev ids : List TxnId
   ids = flat_map (λ c. c) h.components
 
-  are_new : AreNewTaken (IsDecided old.links) links h.components
+  are_new : AreNewTaken (IsDecided old.table.links) links h.components
   are_new =
       record {
         members = record {

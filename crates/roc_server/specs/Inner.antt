@@ -1,7 +1,6 @@
 -- What stands here is of private functions alone, or is a law that a type needs
 pub mod Shown
-pub mod Left
-pub mod Behind
+pub mod Over
 pub mod Indexed
 pub mod ServerData
 pub mod Starts

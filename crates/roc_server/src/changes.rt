@@ -1,5 +1,5 @@
 //! What was planned is done, or what was tried for it is undone: neither takes memory.
-ghost use Rattle.std.specs.Prelude.{◌≡◌, ◌<◌, not, filter, if◌then◌else◌};
+ghost use Rattle.std.specs.Prelude.{◌≡◌, ◌<◌, ◌≤◌, length, not, filter, if◌then◌else◌};
 ghost use Rattle.std.specs.List.Sorted.{IsStrictlySortedBy};
 ghost use Rattle.roc_step.specs.Waits.{without_asked};
 ghost use Rattle.roc_base.specs.TxnId.{is_txn, txn_cmp};
@@ -8,23 +8,20 @@ ghost use Rattle.roc_step.specs.Forgets.{forget};
 ghost use Rattle.roc_base.specs.declared.node.Shard.{Shard as At};
 ghost use Rattle.roc_server.specs.declared.planned.Change.TheVariants.{Asker as AskerComes, Group as GroupComes, Lists as ListsCome, Marks as MarksRise, Settled as SettledComes};
 ghost use Rattle.roc_server.specs.Inner.Planned.{after, before, AreListsPlanned, AreMarksPlanned, IsGroupPlanned, IsPlanned, IsSettledPlanned};
-ghost use Rattle.roc_server.specs.Inner.Forgetting.{Forgets, IsForgettable, IsOverOf};
-ghost use Rattle.roc_server.specs.Inner.Left.{rows_behind};
+ghost use Rattle.roc_server.specs.Inner.Forgetting.{Forgets, IsOverOf};
 ghost use Rattle.roc_server.specs.Inner.ServerData.{state_of, IsConsistent};
+ghost use Rattle.roc_server.specs.Inner.Settled.{links_settled};
 
 use crate::StartedGroup;
-use crate::behind::keep_behind;
 use crate::found::keep_found;
 use crate::indexed::{add_group, take_out};
-use crate::learning::unlearn;
-use crate::left::Left;
 use crate::planned::{Change, Heard, Lesson, Settlement};
 use crate::runs::put_back;
 use crate::server_data::ServerData;
 use crate::settled::Settling;
 use roc_await::{Asker, Waits};
 use roc_base::TxnId;
-use roc_server_ancestors::Ancestors;
+use roc_server_table::ListTable;
 
 // What was planned is done.
 pub(crate) fn commit(kept: &mut ServerData, change: Change)
@@ -97,11 +94,11 @@ fn keep_lists(kept: &mut ServerData, lesson: Lesson)
         news,
         found,
         earlier: _,
-        left,
+        over,
     } = lesson;
     keep_found(kept, &news, found);
     kept.rows.release();
-    forget_if_over(kept, left);
+    forget_if_over(kept, &over);
 }
 
 // The watermarks are heard, and what is over by them is forgotten.
@@ -110,9 +107,9 @@ fn keep_marks(kept: &mut ServerData, heard: Heard)
     ensures state { (shard : At) → state_of shard kept.new ≡ after shard kept.old (MarksRise heard) }
     ensures sound { IsConsistent kept.new }
 {
-    let Heard { marks, left } = heard;
+    let Heard { marks, over } = heard;
     kept.marks = marks;
-    forget_if_over(kept, left);
+    forget_if_over(kept, &over);
 }
 
 // What was found of a settled transaction is kept.
@@ -126,18 +123,31 @@ fn keep_settled(kept: &mut ServerData, settlement: Settlement)
         marks,
         settled,
         is_known,
-        lacks,
         components,
         ids,
-        behind,
+        over,
     } = found;
     kept.marks = marks;
-    kept.lacks.take(lacks);
+    settle_all(&mut kept.table, &settled);
+    kept.table.decide(&ids);
     take_out(&mut kept.index, &kept.started, &ids);
     kept.taken.add(components);
     drop_unless(&mut kept.waits, is_known, &settled);
     kept.rows.release();
-    keep_behind(kept, &ids, behind);
+    forget_if_over(kept, &over);
+}
+
+// The entries that name these are done from now on.
+fn settle_all(table: &mut ListTable, settled: &[TxnId])
+    requires { length settled.now ≤ 1 }
+    ensures known { table.new.known ≡ table.old.known }
+    ensures links { table.new.links ≡ links_settled table.old.links settled.now }
+    ensures decided { table.new.decided ≡ table.old.decided }
+{
+    match settled.first() {
+        Some(id) => table.settle(*id),
+        None => {}
+    }
 }
 
 // These, which rise, are waited for no longer, unless their list is known.
@@ -152,42 +162,26 @@ fn drop_unless(waits: &mut Waits, is_known: bool, settled: &[TxnId])
 }
 
 // Forgets what is over, where something is.
-fn forget_if_over(kept: &mut ServerData, left: Option<Left>)
-    requires { IsOverOf kept.old left }
+fn forget_if_over(kept: &mut ServerData, over: &[TxnId])
+    requires { IsOverOf kept.old over.now }
     ensures state { (shard : At) → state_of shard kept.new ≡ forget (state_of shard kept.old) }
     ensures sound { IsConsistent kept.new }
 {
-    if let Some(left) = left {
-        forget(kept, left);
+    if over.is_empty() {
+        return;
     }
+    forget(kept, over);
 }
 
-// Forgets what is over: it takes what is left in place of what was kept of lists, and leaves out the rest.
-pub(crate) fn forget(kept: &mut ServerData, left: Left)
-    requires { IsForgettable kept.old left }
-    ensures { (f : IsForgettable kept.old left) → Forgets kept.old kept.new f.was }
+// Forgets what is over.
+fn forget(kept: &mut ServerData, over: &[TxnId])
+    requires { IsOverOf kept.old over.now }
+    ensures { Forgets kept.old kept.new }
 {
-    let Left {
-        over,
-        links,
-        ancestors,
-    } = left;
-    kept.started.forget(&over);
-    kept.known.forget(&over);
-    kept.waits.drop_asked(&over);
+    kept.started.forget(over);
+    kept.waits.drop_asked(over);
     kept.taken.forget(&kept.marks);
-    kept.decided.forget(&over);
-    kept.links = links;
-    renew(&mut kept.ancestors, ancestors);
-}
-
-// Keeps rows that were made anew in place of those that are kept.
-fn renew(rows: &mut Ancestors, made: Option<Ancestors>)
-    ensures { rows.new.rows ≡ rows_behind rows.old.rows made }
-{
-    if let Some(made) = made {
-        *rows = made;
-    }
+    kept.table.forget(over);
 }
 
 // The cells, the groups and the lists are as they were before.
@@ -200,11 +194,11 @@ fn undo_lists(kept: &mut ServerData, lesson: Lesson)
         news,
         found: _,
         earlier,
-        left: _,
+        over: _,
     } = lesson;
     kept.rows.rollback();
     put_back(&mut kept.started, earlier);
-    unlearn(kept, &news);
+    kept.table.unlearn(&news);
 }
 
 // The cells and the groups are as they were before.

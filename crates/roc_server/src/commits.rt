@@ -19,16 +19,17 @@ use crate::marks::Marks;
 use crate::missing::was_asked_for;
 use crate::planned::{Planned, nothing};
 use crate::server_data::ServerData;
-use crate::teach::plan_lists;
+use crate::teach::prepare_lists;
 use roc_base::{Edges, NoMemory, Shard, TxnId};
 use roc_depgraph::KnownList;
 use roc_msg::{Outbox, Reason};
 use roc_plan::Plan;
-use roc_server_lists::{Decided, commit_differs, is_unlike, news_of_commit, news_of_known};
+use roc_server_lists::{commit_differs, is_unlike, news_of_commit, news_of_known};
+use roc_server_table::ListTable;
 use std::alloc::Global;
 
 // Plans a commit, or ignores it.
-pub(crate) fn plan_commit(
+pub(crate) fn prepare_commit(
     alloc: Global,
     plan: &Plan,
     shard: Shard,
@@ -49,13 +50,13 @@ pub(crate) fn plan_commit(
     if let Some(answer) = commit_refusal(kept, id, edges, facts) {
         return Ok(nothing(answer));
     }
-    let again = if_decided(&kept.decided, id);
-    let news = news_of_commit(alloc, &kept.known, id, edges, facts)?;
-    plan_lists(alloc, plan, shard, kept, news, again, sends)
+    let again = if_decided(&kept.table, id);
+    let news = news_of_commit(alloc, &kept.table, id, edges, facts)?;
+    prepare_lists(alloc, plan, shard, kept, news, again, sends)
 }
 
 // Plans what comes of a list that was asked for, or ignores it.
-pub(crate) fn plan_known(
+pub(crate) fn prepare_known(
     alloc: Global,
     plan: &Plan,
     shard: Shard,
@@ -74,15 +75,15 @@ pub(crate) fn plan_known(
     if let Some(answer) = known_refusal(kept, id, edges) {
         return Ok(nothing(answer));
     }
-    let news = news_of_known(alloc, &kept.known, id, edges)?;
-    plan_lists(alloc, plan, shard, kept, news, None, sends)
+    let news = news_of_known(alloc, &kept.table, id, edges)?;
+    prepare_lists(alloc, plan, shard, kept, news, None, sends)
 }
 
 // A transaction, where it is decided.
-fn if_decided(decided: &Decided, id: TxnId) -> Option<TxnId>
-    ensures { result ≡ (if is_listed is_txn decided.now.ids id then Some id else None) }
+fn if_decided(table: &ListTable, id: TxnId) -> Option<TxnId>
+    ensures { result ≡ (if is_listed is_txn table.now.decided id then Some id else None) }
 {
-    if decided.contains(id) {
+    if table.is_decided(id) {
         return Some(id);
     }
     None
@@ -100,7 +101,7 @@ fn commit_refusal(
     if !is_here(&kept.started, id) {
         return Some(too_late(&kept.marks, id));
     }
-    if commit_differs(&kept.known, id, edges, facts) {
+    if commit_differs(&kept.table, id, edges, facts) {
         return Some(Handled::Ignored(Reason::Differs));
     }
     None
@@ -113,7 +114,7 @@ fn known_refusal(kept: &ServerData, id: TxnId, edges: &Edges) -> Option<Handled>
     if !was_asked_for(&kept.waits, id) {
         return Some(too_late(&kept.marks, id));
     }
-    if is_unlike(&kept.known, id, edges) {
+    if is_unlike(&kept.table, id, edges) {
         return Some(Handled::Ignored(Reason::Differs));
     }
     None

@@ -23,7 +23,7 @@ use roc_msg::{Msg, Outbox, Reason};
 use roc_server_lists::send_known;
 
 // Plans the answer to a fetch, or ignores it.
-pub(crate) fn plan_fetch(
+pub(crate) fn prepare_fetch(
     shard: Shard,
     kept: &mut ServerData,
     id: TxnId,
@@ -37,9 +37,9 @@ pub(crate) fn plan_fetch(
     ensures err { OnErr result (IsSame kept.old kept.new) }
 {
     if !is_here(&kept.started, id) {
-        return plan_absent(&kept.marks, id, asker, sends);
+        return prepare_absent(&kept.marks, id, asker, sends);
     }
-    match kept.known.list(id) {
+    match kept.table.list(id) {
         Some(edges) => {
             send_known(asker, id, edges, sends)?;
             Ok(nothing(Handled::Done))
@@ -55,7 +55,7 @@ pub(crate) fn plan_fetch(
 }
 
 // Answers for a transaction without a group here: nobody has to wait for one that is ended, and else it is not here.
-fn plan_absent(
+fn prepare_absent(
     marks: &Marks,
     id: TxnId,
     asker: Shard,

@@ -1,67 +1,70 @@
 //! What comes of lists that were learnt: it is found before anything else changes, and kept when nothing can fail any more.
-ghost use Rattle.std.specs.Prelude.{◌≡◌, ◌++◌, IfOk, OnOk};
+ghost use Rattle.std.specs.Prelude.{◌≡◌, ◌++◌, [], IfOk, OnOk};
 ghost use Rattle.std.specs.List.Sorted.{IsStrictlySortedBy};
-ghost use Rattle.roc_base.specs.TxnId.{txn_cmp};
+ghost use Rattle.roc_base.specs.TxnId.{is_txn, txn_cmp};
+ghost use Rattle.roc_sequence.specs.Places.{IsListed};
+ghost use Rattle.roc_step.specs.Forgets.{over};
+ghost use Rattle.roc_step.specs.New.{AreAllNew, AreNewTaken};
+ghost use Rattle.roc_server.specs.Inner.Over.{AreOver};
 ghost use Rattle.roc_server.specs.Inner.Indexed.{AreGroupRefsOf};
-ghost use Rattle.roc_server.specs.Inner.Left.{IsOver};
-ghost use Rattle.roc_server.specs.Inner.Taught.{AreListsRight, AreRowsFound, Finds, HasRoomToKeep, IsLearning, KeepsBesideRuns, KeepsFound};
+ghost use Rattle.roc_server.specs.Inner.Taught.{AreIdsSame, Finds, HasRoomToKeep, KeepsBesideRuns, KeepsFound};
 
 use crate::indexed::take_out;
 use crate::learning::Named;
-use crate::left::{Left, left_of_new};
 use crate::missing::missing_from;
 use crate::server_data::ServerData;
-use crate::taken::push_members;
-use roc_await::{NextLacks, OpenFetch};
+use crate::taken::{over_among, push_members};
+use roc_await::OpenFetch;
 use roc_base::{NoMemory, TxnId};
 use roc_depgraph::KnownList;
 use roc_sequence::Sequence;
-use roc_server_ancestors::NextRows;
-use roc_server_lists::{ids_of_news, newly_taken, wait_for};
+use roc_server_lists::wait_for;
+use roc_server_table::ListTable;
 use std::alloc::Global;
 
-// What is missing, what the others lack then, the components that become decided, as they are taken, the transactions in them,
-// one after another, and the least of the ancestors of those that are not over.
+// What is missing, the components that become decided, as they are taken, and the transactions in them, one after another.
 #[derive(Drop)]
 pub(crate) struct Found {
     pub asks: Vec<OpenFetch>,
-    pub lacks: NextLacks,
     pub components: Vec<Sequence<TxnId>>,
     pub ids: Vec<TxnId>,
-    pub rows: NextRows,
 }
 
-// Finds what comes of these lists, which were learnt last, and name this; and what is left, where something is over then.
+// Finds what comes of lists that were learnt last and name this, and what is over then.
 pub(crate) fn find_all(
     alloc: Global,
-    kept: &ServerData,
-    news: &[KnownList],
+    kept: &mut ServerData,
     named: &Named,
-) -> Result<(Found, Option<Left>), NoMemory>
-    requires learning { IsLearning kept.now news.now }
+) -> Result<(Found, Vec<TxnId>), NoMemory>
     requires rising { IsStrictlySortedBy txn_cmp named.now.done.items }
-    requires lists { AreListsRight kept.now }
-    ensures finds { IfOk result (λ p. Finds kept.now named.now p.0) }
-    ensures left { IfOk result (λ p. IsOver kept.now.marks (kept.now.taken.components ++ p.0.components.items) kept.now.links p.1) }
-    ensures rows { IfOk result (λ p. AreRowsFound kept.now p.0.rows p.1) }
+    requires same { AreIdsSame kept.old.table }
+    requires none_over { over kept.old.marks kept.old.taken.components ≡ [] }
+    ensures finds { IfOk result (λ p. Finds kept.old named.now p.0) }
+    ensures over { IfOk result (λ p. AreOver kept.old.marks (kept.old.taken.components ++ p.0.components.items) p.1.items) }
+    ensures same { kept.new ≡ kept.old }
 {
     let asks = missing_from(alloc, kept, named.edges.as_slice(), &named.done)?;
-    let of_news = ids_of_news(alloc, news)?;
-    let lacks = kept.lacks.ready(&kept.links, &of_news)?;
-    let components = newly_taken(alloc, &kept.links, lacks.decided())?;
+    let components = find_taken(&mut kept.table)?;
     let mut ids = Vec::new(alloc);
     push_members(&components, &mut ids)?;
-    let (rows, left) = left_of_new(alloc, kept, &components)?;
+    let over = over_among(alloc, &kept.marks, &[], &components)?;
     Ok((
         Found {
             asks,
-            lacks,
             components,
             ids,
-            rows,
         },
-        left,
+        over,
     ))
+}
+
+// The components that are decided and were not before, in the order in which they are taken.
+pub(crate) fn find_taken(table: &mut ListTable) -> Result<Vec<Sequence<TxnId>>, NoMemory>
+    ensures same { table.new ≡ table.old }
+    ensures taken { IfOk result (λ components. AreNewTaken (IsListed is_txn table.old.decided) table.old.links components.items) }
+{
+    let ids = table.newly()?;
+    table.components(&ids)
 }
 
 // Takes the memory ahead that `keep_found` needs.
@@ -72,8 +75,6 @@ pub(crate) fn make_room(kept: &mut ServerData, found: &Found) -> Result<(), NoMe
     ensures room { OnOk result (HasRoomToKeep kept.new found.now) }
 {
     kept.waits.reserve(found.asks.len())?;
-    kept.ancestors.reserve(found.rows.len())?;
-    kept.decided.reserve(found.ids.len())?;
     kept.taken.reserve(found.components.len())
 }
 
@@ -81,19 +82,16 @@ pub(crate) fn make_room(kept: &mut ServerData, found: &Found) -> Result<(), NoMe
 pub(crate) fn keep_found(kept: &mut ServerData, news: &[KnownList], found: Found)
     requires room { HasRoomToKeep kept.old found }
     requires group_refs { AreGroupRefsOf kept.old.started.groups kept.old.index }
+    requires decided { AreAllNew (IsListed is_txn kept.old.table.decided) kept.old.table.links found.ids.items }
     ensures { KeepsFound kept.old kept.new news.now found }
 {
     let Found {
         asks,
-        lacks,
         components,
         ids,
-        rows,
     } = found;
     wait_for(&mut kept.waits, news, &asks).unwrap();
-    kept.lacks.take(lacks);
-    kept.ancestors.take(rows).unwrap();
     take_out(&mut kept.index, &kept.started, &ids);
-    kept.decided.take(&ids).unwrap();
+    kept.table.decide(&ids);
     kept.taken.add(components);
 }

@@ -160,7 +160,7 @@ fn starts_against(kept: &ServerData, change: &Change, uses: &[Access]) -> bool
 
 // Whether a group is not decided, neither before nor newly, and writes one of these cells.
 fn holds_up(kept: &ServerData, newly: &[TxnId], group: &StartedGroup, uses: &[Access]) -> bool
-    ensures { result ≡ (not (is_listed is_txn kept.now.decided.ids group.now.id || is_listed is_txn newly.now group.now.id) && writes_one uses.now group.now) }
+    ensures { result ≡ (not (is_listed is_txn kept.now.table.decided group.now.id || is_listed is_txn newly.now group.now.id) && writes_one uses.now group.now) }
 {
     if is_decided(kept, newly, group.id) {
         return false;
@@ -170,9 +170,9 @@ fn holds_up(kept: &ServerData, newly: &[TxnId], group: &StartedGroup, uses: &[Ac
 
 // Whether a transaction was decided before, or newly is.
 fn is_decided(kept: &ServerData, newly: &[TxnId], id: TxnId) -> bool
-    ensures { result ≡ (is_listed is_txn kept.now.decided.ids id || is_listed is_txn newly.now id) }
+    ensures { result ≡ (is_listed is_txn kept.now.table.decided id || is_listed is_txn newly.now id) }
 {
-    if kept.decided.contains(id) {
+    if kept.table.is_decided(id) {
         return true;
     }
     is_among(newly, id)

@@ -17,8 +17,8 @@ use crate::Handled;
 use crate::ahead::{Ahead, Outcome};
 use crate::changes::{commit, undo};
 use crate::planned::Planned;
-use crate::planning::plan_message;
-use crate::read_answers::plan_reads;
+use crate::planning::prepare_message;
+use crate::read_answers::prepare_reads;
 use crate::server_data::ServerData;
 use crate::views::{Views, keep_views};
 use roc_base::{NoMemory, Shard};
@@ -197,7 +197,7 @@ pub(crate) fn take_ready(
 }
 
 // Plans what comes of a message, and what comes of that for reads. No count and no kept read changes.
-fn plan_step(
+fn prepare_step(
     alloc: Global,
     plan: &Plan,
     shard: Shard,
@@ -216,8 +216,8 @@ fn plan_step(
     ensures err { OnErr result (IsSame kept.old kept.new) }
 {
     let mut sends = Outbox::new(alloc);
-    let planned = plan_message(alloc, plan, shard, kept, msg, &mut sends)?;
-    match plan_reads(alloc, plan, shard, kept, views, msg, &planned, &mut sends) {
+    let planned = prepare_message(alloc, plan, shard, kept, msg, &mut sends)?;
+    match prepare_reads(alloc, plan, shard, kept, views, msg, &planned, &mut sends) {
         Ok(stays) => Ok(Outcome {
             answer: planned.answer,
             change: planned.change,
@@ -284,7 +284,7 @@ fn make(
     ensures count { CanCount views.new ahead.new }
 {
     let copy = shared(alloc, msg)?;
-    match plan_step(alloc, plan, shard, kept, views, msg) {
+    match prepare_step(alloc, plan, shard, kept, views, msg) {
         Ok(outcome) => {
             put(ahead, copy, outcome);
             Ok(())

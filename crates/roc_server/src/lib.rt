@@ -30,7 +30,6 @@
 #![tactic(auto)]
 
 mod ahead;
-mod behind;
 mod changes;
 mod commitoks;
 mod commits;
@@ -43,7 +42,6 @@ mod groups;
 mod handling;
 mod indexed;
 mod learning;
-mod left;
 mod lent_groups;
 mod looks;
 mod marks;

@@ -37,11 +37,11 @@ pub(crate) fn entries<L: Ledger>(
 ) -> Result<Edges, NoMemory>
     requires fits { AreGroupsOf plan.now groups.now.kept.now.started.groups }
     requires once { NoneTwice is_same_group groups.now.kept.now.started.groups }
-    requires index { IsIndexOf groups.now.kept.now.index groups.now.kept.now.decided.ids groups.now.kept.now.started.groups }
+    requires index { IsIndexOf groups.now.kept.now.index groups.now.kept.now.table.decided groups.now.kept.now.started.groups }
     ensures entries { IfOk result (λ edges. edges
-        ≡ united (map (edge_to starting.shard starting.immediate) (filter (conflicts_before plan.now groups.now.kept.now.decided.ids starting.id starting.immediate cells.now)
+        ≡ united (map (edge_to starting.shard starting.immediate) (filter (conflicts_before plan.now groups.now.kept.now.table.decided starting.id starting.immediate cells.now)
         groups.now.kept.now.started.groups))) }
-    ensures steps { steps.new ≤ steps.old + length (users plan.now groups.now.kept.now.decided.ids starting.immediate cells.now groups.now.kept.now.started.groups) }
+    ensures steps { steps.new ≤ steps.old + length (users plan.now groups.now.kept.now.table.decided starting.immediate cells.now groups.now.kept.now.started.groups) }
 {
     let mut met = Vec::new(alloc);
     for access in cells {

@@ -3,9 +3,10 @@ ghost use Rattle.std.specs.Prelude.{◌≡◌, not, ◌&&◌, map, filter, IfOk}
 ghost use Rattle.std.specs.List.Sorted.{IsStrictlySortedBy};
 ghost use Rattle.roc_step.specs.Waits.{was_asked_for};
 ghost use Rattle.roc_base.specs.TxnId.{is_txn, txn_cmp};
+ghost use Rattle.roc_depgraph.specs.Deps.{is_known};
 ghost use Rattle.roc_sequence.specs.Places.{is_listed};
-ghost use Rattle.roc_server.specs.Inner.Taught.{asked_by};
-ghost use Rattle.roc_step.specs.Lists.{is_done, is_missing};
+ghost use Rattle.roc_server.specs.Inner.Taught.{asked_by, is_done_with, AreIdsSame};
+ghost use Rattle.roc_step.specs.Lists.{is_missing};
 ghost use Rattle.roc_step.specs.State.{ServerState};
 
 use crate::groups::is_here;
@@ -14,8 +15,8 @@ use crate::server_data::ServerData;
 use crate::started_groups::StartedGroups;
 use roc_await::{OpenFetch, Waits};
 use roc_base::{Edge, NoMemory, Shard, TxnId};
-use roc_depgraph::{Deps, is_among_rising};
-use roc_server_lists::KnownLists;
+use roc_depgraph::is_among_rising;
+use roc_server_table::ListTable;
 use std::alloc::Global;
 
 // Of the transactions that entries name, those of which the entries are done as they are learnt.
@@ -26,30 +27,27 @@ pub(crate) fn done_of(
     edges: &[Edge],
 ) -> Result<Vec<TxnId>, NoMemory>
     ensures { IfOk result (λ done. (s : ServerState) → s.shard ≡ shard → s.below ≡ kept.now.marks → s.started ≡ kept.now.started.groups
-        → done.items ≡ map (λ d. d.from) (filter (λ d. is_done s kept.now.known d.from) edges.now)) }
+        → done.items ≡ map (λ d. d.from) (filter (λ d. is_done_with s kept.now.table.known d) edges.now)) }
 {
     let mut done = Vec::new(alloc);
     for edge in edges {
-        let id = edge.from();
-        if is_done(shard, &kept.known, &kept.started, &kept.marks, id) {
-            done.push(id)?;
+        if is_done_with(shard, kept, *edge) {
+            done.push(edge.from())?;
         }
     }
     Ok(done)
 }
 
-// Whether the entries of a transaction are done as they are learnt.
-fn is_done(
-    shard: Shard,
-    known: &KnownLists,
-    started: &StartedGroups,
-    marks: &Marks,
-    id: TxnId,
-) -> bool
-    ensures { (s : ServerState) → s.shard ≡ shard → s.below ≡ marks.now → s.started ≡ started.now.groups → result ≡ is_done s known.now id }
+// Whether the entries of a transaction are done as they are learnt, where this is what they and those of known lists say together.
+fn is_done_with(shard: Shard, kept: &ServerData, edge: Edge) -> bool
+    ensures { (s : ServerState) → s.shard ≡ shard → s.below ≡ kept.now.marks → s.started ≡ kept.now.started.groups → result ≡ is_done_with s kept.now.table.known edge }
 {
-    let at = u16::from(shard.0);
-    marks.is_ended(id) && !is_here(started, id) && known.least_naming(id, at + 1) == at
+    let id = edge.from();
+    let own = u16::from(shard.0);
+    let told = u16::from(edge.at().0);
+    kept.marks.is_ended(id)
+        && !is_here(&kept.started, id)
+        && kept.table.least_naming(id, told.min(own + 1)) == own
 }
 
 // What entries name and is missing, by id, each with the shard that is to be asked. Those that are done, which rise, are left out.
@@ -59,14 +57,15 @@ pub(crate) fn missing_from(
     edges: &[Edge],
     done: &[TxnId],
 ) -> Result<Vec<OpenFetch>, NoMemory>
-    requires { IsStrictlySortedBy txn_cmp done.now }
+    requires rising { IsStrictlySortedBy txn_cmp done.now }
+    requires same { AreIdsSame kept.now.table }
     ensures { IfOk result (λ asks. (s : ServerState) → s.started ≡ kept.now.started.groups → s.lists.waiting.asked ≡ kept.now.waits.waiting.asked
-        → asks.items ≡ map (asked_by kept.now.marks kept.now.known) (filter (λ d. not (is_listed is_txn done.now d.from) && is_missing s kept.now.links d) edges.now)) }
+        → asks.items ≡ map (asked_by kept.now.marks kept.now.table.known) (filter (λ d. not (is_listed is_txn done.now d.from) && is_missing s kept.now.table.links d) edges.now)) }
 {
     let mut asks = Vec::new(alloc);
     for edge in edges {
         if is_lacking(kept, done, *edge) {
-            asks.push(ask_for(&kept.marks, &kept.known, *edge))?;
+            asks.push(ask_for(&kept.marks, &kept.table, *edge))?;
         }
     }
     Ok(asks)
@@ -74,34 +73,44 @@ pub(crate) fn missing_from(
 
 // Whether an entry is followed, and what it names is missing.
 fn is_lacking(kept: &ServerData, done: &[TxnId], edge: Edge) -> bool
-    requires { IsStrictlySortedBy txn_cmp done.now }
+    requires rising { IsStrictlySortedBy txn_cmp done.now }
+    requires same { AreIdsSame kept.now.table }
     ensures { (s : ServerState) → s.started ≡ kept.now.started.groups → s.lists.waiting.asked ≡ kept.now.waits.waiting.asked
-        → result ≡ (not (is_listed is_txn done.now edge.from) && is_missing s kept.now.links edge) }
+        → result ≡ (not (is_listed is_txn done.now edge.from) && is_missing s kept.now.table.links edge) }
 {
-    !is_among_rising(done, edge.from()) && is_missing(&kept.links, &kept.started, &kept.waits, edge)
+    !is_among_rising(done, edge.from()) && is_missing(&kept.table, &kept.started, &kept.waits, edge)
 }
 
 // What is asked for, and of which shard: the least that entries tell. Only an ended transaction is named by known lists that the entry is not of.
-fn ask_for(marks: &Marks, known: &KnownLists, edge: Edge) -> OpenFetch
-    ensures { result ≡ asked_by marks.now known.now edge }
+fn ask_for(marks: &Marks, table: &ListTable, edge: Edge) -> OpenFetch
+    ensures { result ≡ asked_by marks.now table.now.known edge }
 {
     let id = edge.from();
     let at = edge.at();
     if marks.is_ended(id) {
         return OpenFetch {
             id,
-            at: Shard(known.least_naming(id, u16::from(at.0)) as u8),
+            at: Shard(table.least_naming(id, u16::from(at.0)) as u8),
         };
     }
     OpenFetch { id, at }
 }
 
 // Whether what an entry names is missing.
-fn is_missing(links: &Deps, started: &StartedGroups, waits: &Waits, edge: Edge) -> bool
-    ensures { (s : ServerState) → s.started ≡ started.now.groups → s.lists.waiting.asked ≡ waits.now.waiting.asked → result ≡ is_missing s links.now edge }
+fn is_missing(table: &ListTable, started: &StartedGroups, waits: &Waits, edge: Edge) -> bool
+    requires { AreIdsSame table.now }
+    ensures { (s : ServerState) → s.started ≡ started.now.groups → s.lists.waiting.asked ≡ waits.now.waiting.asked → result ≡ is_missing s table.now.links edge }
 {
     let id = edge.from();
-    links.list(id).is_none() && !is_here(started, id) && !was_asked_for(waits, id)
+    !is_known(table, id) && !is_here(started, id) && !was_asked_for(waits, id)
+}
+
+// Whether the list of a transaction is known, and so what is followed of it.
+fn is_known(table: &ListTable, id: TxnId) -> bool
+    requires { AreIdsSame table.now }
+    ensures { result ≡ is_known table.now.links id }
+{
+    table.list(id).is_some()
 }
 
 // Whether the list of a transaction was asked for.

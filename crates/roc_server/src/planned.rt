@@ -3,12 +3,12 @@ ghost use Rattle.std.specs.Prelude.{◌≡◌};
 ghost use Rattle.roc_server.specs.declared.planned.Change.TheVariants.{Nothing};
 
 use crate::found::Found;
-use crate::left::Left;
 use crate::marks::Marks;
 use crate::runs::Earlier;
 use crate::settled::Settling;
 use crate::{Handled, StartedGroup};
 use roc_await::Asker;
+use roc_base::TxnId;
 use roc_depgraph::KnownList;
 
 // Lists that are taught: they are learnt, and behind a savepoint of the cells what they decide has run.
@@ -18,14 +18,15 @@ pub(crate) struct Lesson {
     pub found: Found,
     // What the groups that ran had given before.
     pub earlier: Vec<Earlier>,
-    pub left: Option<Left>,
+    // What is over then, rising.
+    pub over: Vec<TxnId>,
 }
 
-// A watermark that is heard.
+// A watermark that is heard, and what is over by it, rising.
 #[derive(Drop)]
 pub(crate) struct Heard {
     pub marks: Marks,
-    pub left: Option<Left>,
+    pub over: Vec<TxnId>,
 }
 
 // A transaction for which nobody has to wait any more: behind a savepoint of the cells what it decides has run.

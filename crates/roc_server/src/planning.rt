@@ -9,20 +9,20 @@ ghost use Rattle.roc_step.specs.Step.{Handles};
 ghost use Rattle.roc_server.specs.Inner.Shown.{ShowsStep};
 
 use crate::Handled;
-use crate::commits::{plan_commit, plan_known};
-use crate::fetches::plan_fetch;
+use crate::commits::{prepare_commit, prepare_known};
+use crate::fetches::prepare_fetch;
 use crate::planned::Planned;
-use crate::read_refusals::plan_read;
+use crate::read_refusals::prepare_read;
 use crate::server_data::ServerData;
-use crate::settled::{plan_ended, plan_settled};
-use crate::starts::{Request, plan_start};
+use crate::settled::{prepare_ended, prepare_settled};
+use crate::starts::{Request, prepare_start};
 use roc_base::{NoMemory, Nums, Shard, TxnId};
 use roc_msg::{Msg, Outbox};
 use roc_plan::{Known, Plan};
 use std::alloc::Global;
 
 // Plans what comes of a message of a kind that needs room: what is to be sent goes to `sends`.
-pub(crate) fn plan_message(
+pub(crate) fn prepare_message(
     alloc: Global,
     plan: &Plan,
     shard: Shard,
@@ -47,10 +47,10 @@ pub(crate) fn plan_message(
             inputs,
         } => {
             let request = request(*id, *proc, *group, args, inputs)?;
-            plan_start(alloc, plan, shard, kept, request, sends)
+            prepare_start(alloc, plan, shard, kept, request, sends)
         }
         Msg::Commit { id, edges, facts } => {
-            plan_commit(
+            prepare_commit(
                 alloc,
                 plan,
                 shard,
@@ -61,17 +61,17 @@ pub(crate) fn plan_message(
                 sends,
             )
         }
-        Msg::Fetch { id, asker } => plan_fetch(shard, kept, *id, *asker, sends),
-        Msg::Known { id, edges } => plan_known(alloc, plan, shard, kept, *id, edges, sends),
-        Msg::Ended { coord, below } => plan_ended(alloc, kept, *coord, *below, Handled::Done),
-        Msg::Settled { id, below } => plan_settled(alloc, plan, shard, kept, *id, *below, sends),
+        Msg::Fetch { id, asker } => prepare_fetch(shard, kept, *id, *asker, sends),
+        Msg::Known { id, edges } => prepare_known(alloc, plan, shard, kept, *id, edges, sends),
+        Msg::Ended { coord, below } => prepare_ended(alloc, kept, *coord, *below, Handled::Done),
+        Msg::Settled { id, below } => prepare_settled(alloc, plan, shard, kept, *id, *below, sends),
         Msg::Read {
             id,
             round: _,
             proc,
             group,
             args,
-        } => plan_read(alloc, plan, shard, kept, *id, *proc, *group, args),
+        } => prepare_read(alloc, plan, shard, kept, *id, *proc, *group, args),
         _ => unreachable!(),
     }
 }

@@ -24,7 +24,7 @@ use std::alloc::Global;
 
 // Plans what comes of a step for reads, once all else that it sends stands in `sends`: those that are free then are answered. Gives the
 // reads that stay, where others stay than are kept. No count and no read changes.
-pub(crate) fn plan_reads(
+pub(crate) fn prepare_reads(
     alloc: Global,
     plan: &Plan,
     shard: Shard,

@@ -17,7 +17,7 @@ use roc_plan::{Known, Plan};
 use std::alloc::Global;
 
 // Plans what a read is answered: it is taken, comes too late, or is ignored for the first reason that holds. It changes nothing.
-pub(crate) fn plan_read(
+pub(crate) fn prepare_read(
     alloc: Global,
     plan: &Plan,
     shard: Shard,

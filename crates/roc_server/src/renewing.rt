@@ -7,11 +7,9 @@ ghost use Rattle.roc_step.specs.Renewed.{renewed};
 use crate::server_data::ServerData;
 use crate::started_groups::StartedGroups;
 use crate::taken::Taken;
-use roc_await::{Lacks, Waits};
-use roc_depgraph::Deps;
-use roc_server_ancestors::Ancestors;
+use roc_await::Waits;
 use roc_server_index::Index;
-use roc_server_lists::{Decided, KnownLists};
+use roc_server_table::ListTable;
 use std::alloc::Global;
 
 // All goes but the cells and the watermarks. Takes no memory.
@@ -20,12 +18,8 @@ pub(crate) fn renew(alloc: Global, kept: &mut ServerData)
     ensures sound { IsConsistent kept.new }
 {
     kept.started = StartedGroups::new(alloc);
-    kept.known = KnownLists::new(alloc);
-    kept.links = Deps::new(alloc);
+    kept.table = ListTable::new(alloc);
     kept.waits = Waits::new(alloc);
-    kept.decided = Decided::new(alloc);
-    kept.ancestors = Ancestors::new(alloc);
-    kept.lacks = Lacks::new(alloc);
     kept.index = Index::new(alloc);
     kept.taken = Taken::new(alloc);
 }

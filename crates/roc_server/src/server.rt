@@ -219,7 +219,7 @@ impl Server {
     pub fn decided(&self, id: TxnId) -> bool
         ensures { IsTrue result ↔ IsDecided self.now.state.lists.links id }
     {
-        self.kept.decided.contains(id)
+        self.kept.table.is_decided(id)
     }
 
     /// Whether a transaction is below the highest watermark that was heard of its coordinator, and so was answered there. Takes no memory.

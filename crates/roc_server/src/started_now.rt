@@ -4,7 +4,6 @@ ghost use Rattle.roc_base.specs.Edges.{united};
 ghost use Rattle.roc_group.specs.GroupRun.{call, group_run, group_uses, bound_by_run};
 ghost use Rattle.roc_plan.specs.Groups.{groups_of, is_immediate_of, procedure_of, inputs_of};
 ghost use Rattle.roc_sequence.specs.Places.{NoneTwice};
-ghost use Rattle.roc_server_ancestors.specs.Least.{AreRows};
 ghost use Rattle.roc_step.specs.Fits.{IsCallOf, AreGroupsOf};
 ghost use Rattle.roc_server.specs.Inner.Indexed.{IsIndexOf};
 ghost use Rattle.roc_server.specs.Inner.ServerData.{asked, is_same_group};
@@ -89,9 +88,9 @@ fn edges_for<L: Ledger>(
     requires some { 0 < blank.parts }
     requires fits { AreGroupsOf plan.now kept.now.started.groups }
     requires once { NoneTwice is_same_group kept.now.started.groups }
-    requires index { IsIndexOf kept.now.index kept.now.decided.ids kept.now.started.groups }
+    requires index { IsIndexOf kept.now.index kept.now.table.decided kept.now.started.groups }
     ensures { IfOk result (λ edges. edges
-        ≡ united (map (edge_to starting.shard starting.immediate) (filter (conflicts_before plan.now kept.now.decided.ids starting.id starting.immediate cells.now) kept.now.started.groups))) }
+        ≡ united (map (edge_to starting.shard starting.immediate) (filter (conflicts_before plan.now kept.now.table.decided starting.id starting.immediate cells.now) kept.now.started.groups))) }
 {
     let mut steps = Steps::<L>::new(blank);
     entries(
@@ -115,8 +114,7 @@ pub(crate) fn new_group(
     requires call { IsCallOf plan.now (asked request) }
     requires fits { AreGroupsOf plan.now kept.old.started.groups }
     requires once { NoneTwice is_same_group kept.old.started.groups }
-    requires index { IsIndexOf kept.old.index kept.old.decided.ids kept.old.started.groups }
-    requires rows { AreRows kept.old.links kept.old.ancestors.rows }
+    requires index { IsIndexOf kept.old.index kept.old.table.decided kept.old.started.groups }
     ensures new { IfOk result (λ e. IsNewGroup plan.now shard kept.old kept.new request.id (asked request) e) }
     ensures beside { KeepsBeside kept.old kept.new }
     ensures saved { kept.new.rows.saved ≡ kept.old.rows.saved }
@@ -143,13 +141,7 @@ pub(crate) fn new_group(
     };
     let blank = Blank::new(1);
     let edges = edges_for::<Brand>(alloc, plan, kept, starting, cells.as_slice(), blank)?;
-    let facts = facts_for(
-        alloc,
-        &kept.known,
-        &kept.links,
-        &kept.ancestors,
-        edges.as_slice(),
-    )?;
+    let facts = facts_for(alloc, &kept.table, edges.as_slice())?;
     let Known { args, inputs } = known;
     Ok(StartedGroup {
         id,

@@ -36,7 +36,7 @@ pub(crate) struct Request {
 }
 
 // Plans a start, or ignores it.
-pub(crate) fn plan_start(
+pub(crate) fn prepare_start(
     alloc: Global,
     plan: &Plan,
     shard: Shard,
@@ -59,12 +59,12 @@ pub(crate) fn plan_start(
             send_startok(shard, earlier, sends)?;
             Ok(nothing(Handled::Done))
         }
-        None => plan_new(alloc, plan, shard, kept, request, sends),
+        None => prepare_new(alloc, plan, shard, kept, request, sends),
     }
 }
 
 // Plans the start of a group that is not here. Where there is no memory, what it set is undone.
-fn plan_new(
+fn prepare_new(
     alloc: Global,
     plan: &Plan,
     shard: Shard,
@@ -74,7 +74,7 @@ fn plan_new(
 ) -> Result<Planned, NoMemory>
     requires call { IsCallOf plan.now (asked request) }
     requires absent { find_group request.id request.group kept.old.started.groups ≡ None }
-    requires unknown { is_known kept.old.known request.id ≡ false }
+    requires unknown { is_known kept.old.table.known request.id ≡ false }
     requires fits { AreGroupsOf plan.now kept.old.started.groups }
     requires sound { IsConsistent kept.old }
     ensures step { IfOk result (λ p. StartsNew plan.now shard kept.old (after shard kept.new p.change) sends.old sends.new request.id (asked request) p.answer) }
@@ -186,7 +186,7 @@ fn start_fault(
     if plan.shard_of(plan.place(proc, group, &request.known)) != shard {
         return Some(Reason::NotHere);
     }
-    if is_new && kept.known.list(id).is_some() {
+    if is_new && kept.table.list(id).is_some() {
         return Some(Reason::Late);
     }
     if differs(&kept.started, id, proc, &request.known.args) {

@@ -2,9 +2,11 @@
 ghost use Rattle.std.specs.Prelude.{◌≡◌, ◌≤◌, ◌-◌, ◌++◌, [], length, not, filter, vec_len, vec_capacity, IfOk, OnOk};
 ghost use Rattle.std.specs.List.{flat_map};
 ghost use Rattle.roc_step.specs.Forgets.{is_over, over};
+ghost use Rattle.roc_server.specs.Inner.Over.{AreOver};
 
 use crate::marks::Marks;
 use roc_base::{NoMemory, TxnId};
+use roc_component::rising;
 use roc_sequence::Sequence;
 use std::alloc::Global;
 use std::marker::Model;
@@ -17,7 +19,7 @@ pub(crate) struct Taken {
 
 impl Model for Taken {
     ghost use Rattle.std.specs.Prelude.{◌-◌, vec_len, vec_capacity};
-    ghost use Rattle.roc_server.specs.Inner.Left.{TakenComponents};
+    ghost use Rattle.roc_server.specs.Inner.Over.{TakenComponents};
 
     ghost Value = { TakenComponents };
 
@@ -106,21 +108,19 @@ pub(crate) fn push_over(
     Ok(())
 }
 
-// Those of the components that are not over.
-pub(crate) fn open_among(
+// The transactions of components that are over, by id.
+pub(crate) fn over_among(
     alloc: Global,
     marks: &Marks,
-    components: &[Sequence<TxnId>],
-) -> Result<Vec<Sequence<TxnId>>, NoMemory>
-    ensures { IfOk result (λ left. left.items ≡ filter (λ c. not (is_over marks.now c)) components.now) }
+    taken: &[Sequence<TxnId>],
+    more: &[Sequence<TxnId>],
+) -> Result<Vec<TxnId>, NoMemory>
+    ensures { IfOk result (λ ids. AreOver marks.now (taken.now ++ more.now) ids.items) }
 {
-    let mut left = Vec::new(alloc);
-    for component in components {
-        if !is_over(marks, component.as_slice()) {
-            left.push(Sequence::from_slice(alloc, component.as_slice())?)?;
-        }
-    }
-    Ok(left)
+    let mut ids = Vec::new(alloc);
+    push_over(marks, taken, &mut ids)?;
+    push_over(marks, more, &mut ids)?;
+    rising(alloc, &ids)
 }
 
 // Adds the transactions of all of them.

@@ -1,24 +1,24 @@
 //! Lists that are new are taught.
-ghost use Rattle.std.specs.Prelude.{◌≡◌, ◌++◌, IfOk, OnOk, OnErr};
+ghost use Rattle.std.specs.Prelude.{◌≡◌, ◌++◌, [], IfOk, OnOk, OnErr};
 ghost use Rattle.std.specs.List.Sorted.{IsStrictlySortedBy};
 ghost use Rattle.roc_base.specs.TxnId.{txn_cmp};
 ghost use Rattle.roc_step.specs.Learning.{AreLearnable};
 ghost use Rattle.roc_msg.specs.Outbox.{HasSent};
 ghost use Rattle.roc_sequence.specs.Places.{NoneTwice};
 ghost use Rattle.roc_step.specs.Fits.{AreGroupsOf};
-ghost use Rattle.roc_server.specs.Inner.Left.{IsOver};
+ghost use Rattle.roc_step.specs.Forgets.{over};
+ghost use Rattle.roc_server.specs.Inner.Over.{AreOver};
 ghost use Rattle.roc_server.specs.Inner.Runs.{restored};
 ghost use Rattle.roc_step.specs.declared.handled.Handled.TheVariants.{Done};
 ghost use Rattle.roc_server.specs.declared.planned.Change.TheVariants.{Lists};
 ghost use Rattle.roc_server.specs.Inner.Planned.{after, IsPlannedFrom};
 ghost use Rattle.roc_server.specs.Inner.ServerData.{is_same_group, IsConsistent, IsSame};
-ghost use Rattle.roc_server.specs.Inner.Taught.{all_told, own_again, Acts, AreListsRight, AreRowsFound, Finds, IsLearning, KeepsBesideRuns, RunsDecided, Teaches};
+ghost use Rattle.roc_server.specs.Inner.Taught.{all_told, own_again, Acts, AreIdsSame, Finds, KeepsBesideRuns, RunsDecided, Teaches};
 
 use crate::Handled;
 use crate::commitoks::{send_commitok, send_commitoks};
 use crate::found::{Found, find_all, make_room};
-use crate::learning::{Named, learn, unlearn};
-use crate::left::Left;
+use crate::learning::{Named, learn};
 use crate::planned::{Change, Lesson, Planned};
 use crate::ran::note_all;
 use crate::runs::{Earlier, put_back, run_all};
@@ -33,7 +33,7 @@ use roc_server_lists::{send_fetches, tell_all};
 use std::alloc::Global;
 
 // Plans what comes of lists of transactions of which none is known, and of the commitok of `again` that is sent once more.
-pub(crate) fn plan_lists(
+pub(crate) fn prepare_lists(
     alloc: Global,
     plan: &Plan,
     shard: Shard,
@@ -44,7 +44,7 @@ pub(crate) fn plan_lists(
 ) -> Result<Planned, NoMemory>
     requires fits { AreGroupsOf plan.now kept.old.started.groups }
     requires sound { IsConsistent kept.old }
-    requires learnable { AreLearnable kept.old.known news.items }
+    requires learnable { AreLearnable kept.old.table.known news.items }
     ensures ok { IfOk result (λ p. Teaches plan.now shard kept.old (after shard kept.new p.change) sends.old sends.new news.items again p.answer) }
     ensures planned { IfOk result (λ p. IsPlannedFrom kept.old kept.new p.change) }
     ensures err { OnErr result (IsSame kept.old kept.new) }
@@ -52,7 +52,7 @@ pub(crate) fn plan_lists(
     let named = learn(alloc, shard, kept, &news)?;
     kept.rows.savepoint();
     let mut earlier = Vec::new(alloc);
-    match plan_learnt(
+    match prepare_learnt(
         alloc,
         plan,
         shard,
@@ -63,20 +63,20 @@ pub(crate) fn plan_lists(
         &mut earlier,
         sends,
     ) {
-        Ok((found, left)) => Ok(lesson(news, found, earlier, left)),
+        Ok((found, over)) => Ok(lesson(news, found, earlier, over)),
         Err(fault) => {
             kept.rows.rollback();
             put_back(&mut kept.started, earlier);
-            unlearn(kept, &news);
+            kept.table.unlearn(&news);
             Err(fault)
         }
     }
 }
 
-// The lists are to be kept, with what was found of them, and what is left.
-fn lesson(news: Vec<KnownList>, found: Found, earlier: Vec<Earlier>, left: Option<Left>) -> Planned
+// The lists are to be kept, with what was found of them, and what is over is to be forgotten.
+fn lesson(news: Vec<KnownList>, found: Found, earlier: Vec<Earlier>, over: Vec<TxnId>) -> Planned
     ensures answer { result.answer ≡ Done }
-    ensures change { result.change ≡ Lists (record { news = news; found = found; earlier = earlier; left = left }) }
+    ensures change { result.change ≡ Lists (record { news = news; found = found; earlier = earlier; over = over }) }
 {
     Planned {
         answer: Handled::Done,
@@ -84,13 +84,13 @@ fn lesson(news: Vec<KnownList>, found: Found, earlier: Vec<Earlier>, left: Optio
             news,
             found,
             earlier,
-            left,
+            over,
         }),
     }
 }
 
 // The same, where the lists are learnt and there is a savepoint: nothing has changed but what the runs can be undone by.
-fn plan_learnt(
+fn prepare_learnt(
     alloc: Global,
     plan: &Plan,
     shard: Shard,
@@ -100,24 +100,24 @@ fn plan_learnt(
     again: Option<TxnId>,
     earlier: &mut Vec<Earlier>,
     sends: &mut Outbox,
-) -> Result<(Found, Option<Left>), NoMemory>
+) -> Result<(Found, Vec<TxnId>), NoMemory>
     requires fits { AreGroupsOf plan.now kept.old.started.groups }
-    requires learning { IsLearning kept.old news.now }
+    requires once { NoneTwice is_same_group kept.old.started.groups }
     requires rising { IsStrictlySortedBy txn_cmp named.now.done.items }
-    requires lists { AreListsRight kept.old }
+    requires same { AreIdsSame kept.old.table }
+    requires none_over { over kept.old.marks kept.old.taken.components ≡ [] }
     ensures finds { IfOk result (λ p. Finds kept.old named.now p.0) }
     ensures acts { IfOk result (λ p. Acts plan.now shard kept.old kept.new sends.old sends.new news.now again p.0) }
-    ensures left { IfOk result (λ p. IsOver kept.old.marks (kept.old.taken.components ++ p.0.components.items) kept.old.links p.1) }
-    ensures rows { IfOk result (λ p. AreRowsFound kept.old p.0.rows p.1) }
+    ensures over { IfOk result (λ p. AreOver kept.old.marks (kept.old.taken.components ++ p.0.components.items) p.1.items) }
     ensures beside { KeepsBesideRuns kept.old kept.new }
     ensures restored { restored earlier.new.items kept.new.started.groups ≡ restored earlier.old.items kept.old.started.groups }
     ensures saved { kept.new.rows.saved ≡ kept.old.rows.saved }
 {
-    let (found, left) = find_all(alloc, kept, news, named)?;
+    let (found, over) = find_all(alloc, kept, named)?;
     act_on(
         alloc, plan, shard, kept, news, again, &found, earlier, sends,
     )?;
-    Ok((found, left))
+    Ok((found, over))
 }
 
 // Runs what is decided, gathers all that is sent, and takes the room for what is to be kept.

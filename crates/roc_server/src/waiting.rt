@@ -10,7 +10,7 @@ use crate::started_now::is_immediate;
 use roc_base::NoMemory;
 use roc_plan::Plan;
 use roc_sequence::Sequence;
-use roc_server_lists::Decided;
+use roc_server_table::ListTable;
 use roc_step::Waiting;
 use std::alloc::Global;
 
@@ -21,11 +21,11 @@ pub(crate) fn all_waiting(
     kept: &ServerData,
 ) -> Result<Vec<Waiting>, NoMemory>
     requires { AreGroupsOf plan.now kept.now.started.groups }
-    ensures { IfOk result (λ groups. groups.items ≡ map waiting_of (filter (is_waiting plan.now kept.now.decided.ids) kept.now.started.groups)) }
+    ensures { IfOk result (λ groups. groups.items ≡ map waiting_of (filter (is_waiting plan.now kept.now.table.decided) kept.now.started.groups)) }
 {
     let mut groups = Vec::new(alloc);
     for group in kept.started.as_slice() {
-        if is_waiting(plan, &kept.decided, group) {
+        if is_waiting(plan, &kept.table, group) {
             push_waiting(alloc, group, &mut groups)?;
         }
     }
@@ -33,11 +33,11 @@ pub(crate) fn all_waiting(
 }
 
 // Whether a group is buffered, and its transaction not decided.
-fn is_waiting(plan: &Plan, decided: &Decided, group: &StartedGroup) -> bool
+fn is_waiting(plan: &Plan, table: &ListTable, group: &StartedGroup) -> bool
     requires { group.now.group < length (groups_of plan.now group.now.proc) }
-    ensures { result ≡ is_waiting plan.now decided.now.ids group.now }
+    ensures { result ≡ is_waiting plan.now table.now.decided group.now }
 {
-    !is_immediate(plan, group.proc, group.group) && !decided.contains(group.id)
+    !is_immediate(plan, group.proc, group.group) && !table.is_decided(group.id)
 }
 
 // Adds what is shown of a group.

@@ -3,36 +3,27 @@ ghost use Rattle.std.specs.Prelude.{◌≡◌, IfOk};
 ghost use Rattle.std.specs.List.Sorted.{IsStrictlySortedBy};
 ghost use Rattle.roc_base.specs.TxnId.{txn_cmp};
 ghost use Rattle.roc_depgraph.specs.Deps.{entries_of};
-ghost use Rattle.roc_server_ancestors.specs.Least.{AreRows};
 ghost use Rattle.roc_step.specs.Piggyback.{facts_of, AreFactsFor};
 
-use crate::known_lists::KnownLists;
 use roc_base::{Edge, Edges, NoMemory, TxnId};
-use roc_depgraph::{Deps, KnownList};
+use roc_depgraph::KnownList;
 use roc_msg::{Facts, MOST_FACT_EDGES, MOST_FACTS};
-use roc_server_ancestors::Ancestors;
+use roc_server_table::ListTable;
 use std::alloc::Global;
 
 /// The known lists of what entries lead to over what is followed, by id rising, as many as travel along with a message. They are told as
 /// they were learnt. `NoMemory` comes where there is none for them.
-pub fn facts_for(
-    alloc: Global,
-    known: &KnownLists,
-    links: &Deps,
-    ancestors: &Ancestors,
-    edges: &[Edge],
-) -> Result<Facts, NoMemory>
-    requires { AreRows links.now ancestors.now.rows }
-    ensures { IfOk result (AreFactsFor known.now links.now edges.now) }
+pub fn facts_for(alloc: Global, table: &ListTable, edges: &[Edge]) -> Result<Facts, NoMemory>
+    ensures { IfOk result (AreFactsFor table.now.known table.now.links edges.now) }
 {
-    let least = ancestors.led_to(links, edges)?;
-    facts_of(alloc, known, &least)
+    let least = table.led_to(edges)?;
+    facts_of(alloc, table, &least)
 }
 
 // The known lists of these, which rise strictly, as many as travel along.
-fn facts_of(alloc: Global, known: &KnownLists, ids: &[TxnId]) -> Result<Facts, NoMemory>
+fn facts_of(alloc: Global, table: &ListTable, ids: &[TxnId]) -> Result<Facts, NoMemory>
     requires { IsStrictlySortedBy txn_cmp ids.now }
-    ensures { IfOk result (λ facts. facts ≡ facts_of known.now ids.now) }
+    ensures { IfOk result (λ facts. facts ≡ facts_of table.now.known ids.now) }
 {
     let mut facts = Facts::new(alloc);
     let mut room = MOST_FACTS;
@@ -41,7 +32,7 @@ fn facts_of(alloc: Global, known: &KnownLists, ids: &[TxnId]) -> Result<Facts, N
         if room == 0 {
             return Ok(facts);
         }
-        let edges = entries_of(alloc, known, *id)?;
+        let edges = entries_of(alloc, table, *id)?;
         if edges.len() > left {
             return Ok(facts);
         }
@@ -53,10 +44,10 @@ fn facts_of(alloc: Global, known: &KnownLists, ids: &[TxnId]) -> Result<Facts, N
 }
 
 // The entries of a list; none where it is unknown.
-fn entries_of(alloc: Global, known: &KnownLists, id: TxnId) -> Result<Edges, NoMemory>
-    ensures { IfOk result (λ edges. edges ≡ entries_of known.now id) }
+fn entries_of(alloc: Global, table: &ListTable, id: TxnId) -> Result<Edges, NoMemory>
+    ensures { IfOk result (λ edges. edges ≡ entries_of table.now.known id) }
 {
-    match known.list(id) {
+    match table.list(id) {
         Some(edges) => Ok(edges.clone()?),
         None => Ok(Edges::new(alloc)),
     }

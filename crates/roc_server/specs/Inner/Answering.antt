@@ -59,7 +59,7 @@ entered change = None
 
 -- it is decided then, or forgotten
 abbrev pub decided_then : ServerData → Change → TxnId → Bool
-decided_then k change t = is_listed is_txn k.decided.ids t || is_listed is_txn (newly change) t
+decided_then k change t = is_listed is_txn k.table.decided t || is_listed is_txn (newly change) t
 
 -- a group writes one of these
 abbrev pub writes_one : List Access → StartedGroup → Bool

@@ -6,7 +6,6 @@ use Rattle.roc_sequence.specs.Places.{IsListed, is_listed}
 use Rattle.roc_base.specs.declared.id.TxnId.{TxnId}
 use Rattle.roc_base.specs.TxnId.{is_txn}
 use Rattle.roc_base.specs.declared.node.Shard.{Shard}
-use Rattle.roc_await.specs.Lacks.{AreLacks}
 use Rattle.roc_step.specs.Waits.{with_asker, without_asked}
 use Rattle.roc_depgraph.specs.Deps.{is_known}
 use Rattle.roc_rows.specs.Held.{Held}
@@ -27,11 +26,11 @@ use Rattle.roc_step.specs.Forgets.{forget}
 use Rattle.roc_step.specs.Lists.{missing_from}
 use Rattle.roc_step.specs.State.{find_group, ServerState}
 use Rattle.roc_server.specs.Inner.Indexed.{HasRoomFor}
-use Rattle.roc_server.specs.Inner.Left.{AreRowsBehind, IsOver}
+use Rattle.roc_server.specs.Inner.Over.{AreOver}
 use Rattle.roc_server.specs.Inner.Runs.{restored}
 use Rattle.roc_server.specs.Inner.Settled.{links_settled, HasRoomToSettle, IsSettling}
 use Rattle.roc_server.specs.Inner.ServerData.{state_of, AreSameGroups, IsConsistent}
-use Rattle.roc_server.specs.Inner.Taught.{AreLearnt, AreRowsFound, HasRoomToKeep, KeepsBesideRuns}
+use Rattle.roc_server.specs.Inner.Taught.{AreLearnt, HasRoomToKeep, KeepsBesideRuns}
 
 -- ---- before a change
 
@@ -48,8 +47,7 @@ abbrev pub unlearnt : ServerData → Lesson → ServerData
 unlearnt k l = record k {
   rows = rolled k.rows;
   started = record k.started { groups = restored l.earlier.items k.started.groups };
-  known = front (length l.news.items) k.known;
-  links = front (length l.news.items) k.links;
+  table = record k.table { known = front (length l.news.items) k.table.known; links = front (length l.news.items) k.table.links };
 }
 
 -- with the groups and the cells as they were
@@ -72,8 +70,8 @@ abbrev pub with_lists : Shard → ServerData → Lesson → ServerState
 with_lists shard k l =
     record (state_of shard k) {
       lists = record {
-        known = k.known;
-        links = k.links;
+        known = k.table.known;
+        links = k.table.links;
         waiting = waiting_after k.waits.waiting l.news.items l.found.asks.items;
         taken = k.taken.components ++ l.found.components.items;
       };
@@ -85,8 +83,8 @@ with_settled shard k s =
     record (state_of shard k) {
       below = s.found.marks;
       lists = record {
-        known = k.known;
-        links = links_settled k.links s.found.settled.items;
+        known = k.table.known;
+        links = links_settled k.table.links s.found.settled.items;
         waiting = if s.found.is_known then k.waits.waiting else without_asked (is_listed is_txn s.found.settled.items) k.waits.waiting;
         taken = k.taken.components ++ s.found.components.items;
       };
@@ -106,30 +104,27 @@ after shard k (Settled s) = forget (with_settled shard k s)
 pub record IsGroupPlanned (k : ServerData) (e : StartedGroup) : Type 0 where
   pub sound : IsConsistent k
   pub absent : find_group e.id e.group k.started.groups ≡ None
-  pub unknown : is_known k.known e.id ≡ false
+  pub unknown : is_known k.table.known e.id ≡ false
   pub place : 0 < k.started.spare
   pub room : HasRoomFor e.cells k.index
 
 pub record AreListsPlanned (k : ServerData) (l : Lesson) : Type 0 where
   pub sound : IsConsistent (unlearnt k l)
   pub learnt : AreLearnt k l.news.items
-  pub known_before : learnt.known.before ≡ (unlearnt k l).known
-  pub links_before : learnt.links.before ≡ (unlearnt k l).links
+  pub known_before : learnt.known.before ≡ (unlearnt k l).table.known
+  pub links_before : learnt.links.before ≡ (unlearnt k l).table.links
   pub groups : AreSameGroups (unlearnt k l).started.groups k.started.groups
-  pub missing : (shard : Shard) → l.found.asks.items ≡ missing_from (state_of shard (unlearnt k l)) k.known k.links
-  pub chosen : AreNewTaken (IsListed is_txn k.decided.ids) k.links l.found.components.items
+  pub missing : (shard : Shard) → l.found.asks.items ≡ missing_from (state_of shard (unlearnt k l)) k.table.known k.table.links
+  pub chosen : AreNewTaken (IsListed is_txn k.table.decided) k.table.links l.found.components.items
   pub ids : l.found.ids.items ≡ flat_map (λ c. c) l.found.components.items
-  pub linked : AreLinksOf (is_ended k.marks) k.known k.links
-  pub lacks : AreLacks k.links l.found.lacks.lacks
-  pub rows : AreRowsFound k l.found.rows l.left
+  pub linked : AreLinksOf (is_ended k.marks) k.table.known k.table.links
   pub room : HasRoomToKeep k l.found
-  pub left : IsOver k.marks (k.taken.components ++ l.found.components.items) k.links l.left
+  pub over : AreOver k.marks (k.taken.components ++ l.found.components.items) l.over.items
 
 pub record AreMarksPlanned (k : ServerData) (h : Heard) : Type 0 where
   pub sound : IsConsistent k
   pub risen : (t : TxnId) → is_ended k.marks t ≡ true → is_ended h.marks t ≡ true
-  pub left : IsOver h.marks k.taken.components k.links h.left
-  pub rows : AreRowsBehind k.links k.ancestors.rows h.left
+  pub over : AreOver h.marks k.taken.components h.over.items
 
 pub record IsSettledPlanned (k : ServerData) (s : Settlement) : Type 0 where
   pub sound : IsConsistent (unsettled k s)

@@ -10,8 +10,6 @@ use Rattle.roc_base.specs.TxnId.{is_txn, txn_cmp}
 use Rattle.roc_base.specs.Edge.{Dependency}
 use Rattle.roc_depgraph.specs.Deps.{is_known, IsDecided}
 use Rattle.roc_step.specs.Waits.{was_asked_for}
-use Rattle.roc_server_ancestors.specs.Least.{AreRows}
-use Rattle.roc_await.specs.Lacks.{AreLacks}
 use Rattle.roc_group.specs.GroupRun.{GroupCall, call}
 use Rattle.roc_rows.specs.Store.{Store}
 use Rattle.roc_server.specs.declared.server_data.ServerData.{ServerData}
@@ -24,7 +22,14 @@ use Rattle.roc_step.specs.State.{is_group, is_here, unrun, ServerState}
 use Rattle.roc_server.specs.Inner.Indexed.{IsIndexOf}
 
 abbrev pub state_of : Shard → ServerData → ServerState
-state_of shard k = record { shard = shard; store = k.rows.store; started = k.started.groups; lists = record { known = k.known; links = k.links; waiting = k.waits.waiting; taken = k.taken.components }; below = k.marks }
+state_of shard k =
+    record {
+      shard = shard;
+      store = k.rows.store;
+      started = k.started.groups;
+      lists = record { known = k.table.known; links = k.table.links; waiting = k.waits.waiting; taken = k.taken.components };
+      below = k.marks;
+    }
 
 -- the same with these cells and groups
 abbrev pub holding : ServerState → Store → List StartedGroup → ServerState
@@ -36,24 +41,22 @@ is_same_group a b = is_group a.id a.group b
 
 -- what an entry names is unknown, has no group here and was not asked for
 abbrev pub is_left : ServerData → Dependency → Bool
-is_left k d = not (is_known k.links d.from) && (not (is_here d.from k.started.groups) && not (was_asked_for d.from k.waits.waiting.asked))
+is_left k d = not (is_known k.table.links d.from) && (not (is_here d.from k.started.groups) && not (was_asked_for d.from k.waits.waiting.asked))
 
--- each group of a transaction once; as decided exactly what is decided by what is followed, rising, and the least of its ancestors; what the
--- others lack, and where their groups are found by the cells that they use; all that is followed is known, here or asked for; as open
--- exactly what was asked for and is not known; what is followed is of the known lists; and the components taken are of what is decided
+-- each group of a transaction once; as decided exactly what is decided by what is followed, rising; where the groups of the others are found by the
+-- cells that they use; all that is followed is known, here or asked for; as open exactly what was asked for and is not known; what is followed is of
+-- the known lists; and the components taken are of what is decided
 pub record IsRight (k : ServerData) : Type 0 where
   pub groups_once : NoneTwice is_same_group k.started.groups
-  pub decided_rising : IsStrictlySortedBy txn_cmp k.decided.ids
-  pub decided_only : (t : TxnId) → IsListed is_txn k.decided.ids t → IsDecided k.links t
-  pub decided_all : (t : TxnId) → IsDecided k.links t → IsListed is_txn k.decided.ids t
-  pub rows : AreRows k.links k.ancestors.rows
-  pub lacks : AreLacks k.links k.lacks
-  pub index : IsIndexOf k.index k.decided.ids k.started.groups
-  pub none_left : AllByRecursion (λ d. is_left k d ≡ false) (all_entries k.links)
-  pub open_unknown : k.waits.fetches ≡ filter (λ a. not (is_known k.links a.id)) k.waits.waiting.asked
-  pub linked : AreLinksOf (is_ended k.marks) k.known k.links
-  pub taken_decided : (t : TxnId) → IsListed is_txn (flat_map (λ c. c) k.taken.components) t → IsListed is_txn k.decided.ids t
-  pub decided_taken : (t : TxnId) → IsListed is_txn k.decided.ids t → IsListed is_txn (flat_map (λ c. c) k.taken.components) t
+  pub decided_rising : IsStrictlySortedBy txn_cmp k.table.decided
+  pub decided_only : (t : TxnId) → IsListed is_txn k.table.decided t → IsDecided k.table.links t
+  pub decided_all : (t : TxnId) → IsDecided k.table.links t → IsListed is_txn k.table.decided t
+  pub index : IsIndexOf k.index k.table.decided k.started.groups
+  pub none_left : AllByRecursion (λ d. is_left k d ≡ false) (all_entries k.table.links)
+  pub open_unknown : k.waits.fetches ≡ filter (λ a. not (is_known k.table.links a.id)) k.waits.waiting.asked
+  pub linked : AreLinksOf (is_ended k.marks) k.table.known k.table.links
+  pub taken_decided : (t : TxnId) → IsListed is_txn (flat_map (λ c. c) k.taken.components) t → IsListed is_txn k.table.decided t
+  pub decided_taken : (t : TxnId) → IsListed is_txn k.table.decided t → IsListed is_txn (flat_map (λ c. c) k.taken.components) t
   pub taken_once : NoneTwice is_txn (flat_map (λ c. c) k.taken.components)
   pub taken_some : (c : List TxnId) → Has c k.taken.components → c ≢ []
 

@@ -43,13 +43,9 @@ start_fault plan s id c = first_reason (start_reasons plan s id c)
 -- all but the cells is as it was, room aside
 pub record KeepsBeside (old new : ServerData) : Type 0 where
   pub started : new.started.groups ≡ old.started.groups
-  pub known : new.known ≡ old.known
-  pub links : new.links ≡ old.links
+  pub table : new.table ≡ old.table
   pub waiting : new.waits.waiting ≡ old.waits.waiting
   pub fetches : new.waits.fetches ≡ old.waits.fetches
-  pub decided : new.decided.ids ≡ old.decided.ids
-  pub ancestors : new.ancestors.rows ≡ old.ancestors.rows
-  pub lacks : new.lacks ≡ old.lacks
   pub index : HaveSameRefs old.index new.index
   pub marks : new.marks ≡ old.marks
   pub taken : new.taken.components ≡ old.taken.components
@@ -57,16 +53,12 @@ pub record KeepsBeside (old new : ServerData) : Type 0 where
 -- e is what is kept of a group that starts, and an immediate one ran
 pub record IsNewGroup (plan : Plan) (shard : Shard) (old new : ServerData) (id : TxnId) (c : GroupCall) (e : StartedGroup) : Type 0 where
   pub reached : List TxnId
-  pub led : AreLedTo old.links (edges_for plan old.decided.ids (state_of shard old) id c) reached
-  pub is : e ≡ new_group plan old.decided.ids reached (state_of shard old) id c
+  pub led : AreLedTo old.table.links (edges_for plan old.table.decided (state_of shard old) id c) reached
+  pub is : e ≡ new_group plan old.table.decided reached (state_of shard old) id c
   pub store : new.rows.store ≡ (if is_immediate_group plan c then (group_run plan c old.rows.store).store else old.rows.store)
   pub started : new.started.groups ≡ old.started.groups
-  pub known : new.known ≡ old.known
-  pub links : new.links ≡ old.links
+  pub table : new.table ≡ old.table
   pub waits : new.waits ≡ old.waits
-  pub decided : new.decided ≡ old.decided
-  pub ancestors : new.ancestors ≡ old.ancestors
-  pub lacks : new.lacks ≡ old.lacks
   pub index : HaveSameRefs old.index new.index
   pub marks : new.marks ≡ old.marks
   pub taken : new.taken ≡ old.taken
@@ -80,11 +72,11 @@ pub record TellsStart (plan : Plan) (shard : Shard) (e : StartedGroup) (before a
 -- a start was taken, or ignored: the state behind it
 pub record StartTaken (plan : Plan) (shard : Shard) (old : ServerData) (state : ServerState) (before after : Collected) (id : TxnId) (c : GroupCall) (answer : Handled) : Type 0 where
   pub reached : List TxnId
-  pub led : AreLedTo old.links (edges_of_new plan old.decided.ids (state_of shard old) id c) reached
-  pub shown : ShowsStep (after_start plan old.decided.ids reached (state_of shard old) id c) answer state before after
+  pub led : AreLedTo old.table.links (edges_of_new plan old.table.decided (state_of shard old) id c) reached
+  pub shown : ShowsStep (after_start plan old.table.decided reached (state_of shard old) id c) answer state before after
 
 -- a new group started
 pub record StartsNew (plan : Plan) (shard : Shard) (old : ServerData) (state : ServerState) (before after : Collected) (id : TxnId) (c : GroupCall) (answer : Handled) : Type 0 where
   pub reached : List TxnId
-  pub led : AreLedTo old.links (edges_for plan old.decided.ids (state_of shard old) id c) reached
-  pub shown : ShowsStep (start_new plan (state_of shard old) c (new_group plan old.decided.ids reached (state_of shard old) id c)) answer state before after
+  pub led : AreLedTo old.table.links (edges_for plan old.table.decided (state_of shard old) id c) reached
+  pub shown : ShowsStep (start_new plan (state_of shard old) c (new_group plan old.table.decided reached (state_of shard old) id c)) answer state before after

@@ -1,9 +1,9 @@
 -- Lists are taught, part by part
-use Rattle.std.specs.Prelude.{◌≡◌, ◌≤◌, ◌++◌, ◌∷◌, ◌&&◌, [], ℕ, not, List, Option, Some, None, length, filter, map, if◌then◌else◌}
+use Rattle.std.specs.Prelude.{◌≡◌, ◌≤◌, ◌++◌, ◌∷◌, ◌&&◌, ◌==◌, [], ℕ, suc, min, Bool, not, List, Option, Some, None, length, filter, map, if◌then◌else◌}
 use Rattle.std.specs.List.{flat_map}
 use Rattle.std.specs.List.Sorted.{IsStrictlySortedBy}
 use Rattle.roc_sequence.specs.Lists.{Has}
-use Rattle.roc_sequence.specs.Places.{is_listed, IsListed, NoneTwice}
+use Rattle.roc_sequence.specs.Places.{is_listed, IsListed}
 use Rattle.roc_base.specs.TxnId.{is_txn, txn_cmp}
 use Rattle.roc_base.specs.declared.id.TxnId.{TxnId}
 use Rattle.roc_base.specs.declared.node.Shard.{Shard}
@@ -11,9 +11,6 @@ use Rattle.roc_base.specs.Edge.{Dependency}
 use Rattle.roc_base.specs.Edges.{united}
 use Rattle.roc_step.specs.declared.waits.Asker.{Asker}
 use Rattle.roc_step.specs.declared.waits.OpenFetch.{OpenFetch}
-use Rattle.roc_await.specs.Lacks.{AreLacks}
-use Rattle.roc_step.specs.Learning.{AreLearnable}
-use Rattle.roc_server_ancestors.specs.Least.{AreAllRight, AreRows, AreSameRows}
 use Rattle.roc_depgraph.specs.declared.known.KnownList.{KnownList}
 use Rattle.roc_depgraph.specs.Closure.{IsRisingListOf}
 use Rattle.roc_depgraph.specs.Deps.{IsDecided}
@@ -25,20 +22,19 @@ use Rattle.roc_rows.specs.Store.{Store}
 use Rattle.roc_server.specs.declared.found.Found.{Found}
 use Rattle.roc_step.specs.declared.handled.Handled.{Handled}
 use Rattle.roc_server.specs.declared.learning.Named.{Named}
-use Rattle.roc_server.specs.declared.left.Left.{Left}
 use Rattle.roc_server.specs.declared.server_data.ServerData.{ServerData}
 use Rattle.roc_step.specs.declared.started.StartedGroup.{StartedGroup}
 use Rattle.roc_step.specs.Below.{is_ended}
 use Rattle.roc_step.specs.Fits.{AreGroupsOf}
-use Rattle.roc_step.specs.Forgets.{forgetting, over}
+use Rattle.roc_step.specs.Forgets.{forgetting}
 use Rattle.roc_step.specs.Runs.{accesses_of, all_buffered, commitok, take_all}
 use Rattle.roc_step.specs.New.{AreLearntLast, AreLinkedLast, AreNewTaken}
 use Rattle.roc_step.specs.Asking.{asked_of, fetch_from, knowns_for, open_after, waiting_after}
-use Rattle.roc_step.specs.Links.{all_entries, without_links}
+use Rattle.roc_step.specs.Links.{all_entries, least_naming}
 use Rattle.roc_step.specs.Lists.{is_done, links_of, is_missing, missing_after, lists_after, taught, commit_refusal, after_commit, known_refusal, after_known}
-use Rattle.roc_server.specs.Inner.Indexed.{AreOut, IsIndexOf}
-use Rattle.roc_server.specs.Inner.Left.{followed_behind, AreRowsBehind}
-use Rattle.roc_server.specs.Inner.ServerData.{state_of, holding, is_same_group, AreSameGroups}
+use Rattle.roc_server_table.specs.Kept.{TableLists}
+use Rattle.roc_server.specs.Inner.Indexed.{AreOut}
+use Rattle.roc_server.specs.Inner.ServerData.{state_of, holding, AreSameGroups}
 use Rattle.roc_step.specs.State.{is_here, ServerState, ServerStep}
 use Rattle.roc_step.specs.Step.{links_after}
 use Rattle.roc_server.specs.Inner.Shown.{ShowsStep}
@@ -49,71 +45,39 @@ use Rattle.roc_server.specs.Inner.Shown.{ShowsStep}
 abbrev pub asked_by : (marks : List ℕ) → (known : List KnownList) → Dependency → OpenFetch
 asked_by marks known d = if is_ended marks d.from then asked_of known d else record { id = d.from; at = d.at }
 
+-- what is followed is of the lists as they came, place by place
+abbrev pub AreIdsSame : TableLists → Type 0
+AreIdsSame t = map (λ k. k.of) t.links ≡ map (λ k. k.of) t.known
+
+-- Entries of this transaction are done as they are learnt, where the shard of one is the least that new lists tell
+abbrev pub is_done_with : ServerState → (known : List KnownList) → Dependency → Bool
+is_done_with s known d = is_ended s.below d.from && (not (is_here d.from s.started) && least_naming d.from (min d.at.0 (suc s.shard.0)) (all_entries known) == s.shard.0)
+
 -- new lists were learnt, with what is followed of them, and this is what they name, and whose entries are done
 pub record Learns (shard : Shard) (old new : ServerData) (news : List KnownList) (named : Named) : Type 0 where
-  pub is : new ≡ record old { known = old.known ++ news; links = old.links ++ links_of (state_of shard old) news }
+  pub is : new ≡ record old { table = record old.table { known = old.table.known ++ news; links = old.table.links ++ links_of (state_of shard old) news } }
   pub edges : named.edges ≡ united (all_entries news)
   pub rising : IsStrictlySortedBy txn_cmp named.done.items
-  pub done : (d : Dependency) → Has d (all_entries news) → is_listed is_txn named.done.items d.from ≡ is_done (state_of shard old) (old.known ++ news) d.from
-
--- what is followed of lists that were learnt last was learnt too, by a server of a shard: s is one with its groups and watermarks
-pub record FollowsNews (shard : Shard) (old new : ServerData) (news : List KnownList) (named : Named) : Type 0 where
-  pub is : (s : ServerState) → s.shard ≡ shard → s.below ≡ old.marks → s.started ≡ old.started.groups → new ≡ record old { links = old.links ++ map (without_links (is_done s old.known)) news }
-  pub edges : named.edges ≡ united (all_entries news)
-  pub rising : IsStrictlySortedBy txn_cmp named.done.items
-  pub done : (s : ServerState) → s.shard ≡ shard → s.below ≡ old.marks → s.started ≡ old.started.groups → (d : Dependency) → Has d (all_entries news) → is_listed is_txn named.done.items d.from ≡ is_done s old.known d.from
+  pub done : (d : Dependency) → Has d (all_entries news) → is_listed is_txn named.done.items d.from ≡ is_done (state_of shard old) (old.table.known ++ news) d.from
 
 -- these lists were learnt last, and what is followed of them
 pub record AreLearnt (k : ServerData) (news : List KnownList) : Type 0 where
-  pub known : AreLearntLast k.known news
-  pub links : AreLinkedLast k.links news
+  pub known : AreLearntLast k.table.known news
+  pub links : AreLinkedLast k.table.links news
 
--- these lists were learnt last, and all else that is kept is right for the lists before them
-pub record IsLearning (k : ServerData) (news : List KnownList) : Type 0 where
-  pub before : List KnownList
-  pub linked : List KnownList
-  pub links_are : k.links ≡ before ++ linked
-  pub ids_are : map (λ list. list.of) linked ≡ map (λ list. list.of) news
-  pub learnable : AreLearnable before linked
-  pub groups_once : NoneTwice is_same_group k.started.groups
-  pub decided_only : (t : TxnId) → IsListed is_txn k.decided.ids t → IsDecided before t
-  pub decided_all : (t : TxnId) → IsDecided before t → IsListed is_txn k.decided.ids t
-  pub rows : AreRows before k.ancestors.rows
-  pub lacks : AreLacks before k.lacks
-  pub index : IsIndexOf k.index k.decided.ids k.started.groups
-
--- what is followed has the ids of what is known, none taken is over, and the components taken and those that these lists decide newly are all that
--- these lists decide
-pub record AreListsRight (k : ServerData) : Type 0 where
-  pub same : map (λ list. list.of) k.links ≡ map (λ list. list.of) k.known
-  pub none_over : over k.marks k.taken.components ≡ []
-  pub still : (t : TxnId) → IsListed is_txn k.decided.ids t → IsDecided k.links t
-  pub taken_decided : (t : TxnId) → IsListed is_txn (flat_map (λ c. c) k.taken.components) t → IsListed is_txn k.decided.ids t
-  pub decided_taken : (t : TxnId) → IsListed is_txn k.decided.ids t → IsListed is_txn (flat_map (λ c. c) k.taken.components) t
-
--- this is missing, this is what is decided, and the others lack this then
+-- this is missing, and this is what is newly decided
 pub record Finds (k : ServerData) (named : Named) (found : Found) : Type 0 where
-  pub missing : (shard : Shard) → found.asks.items ≡ map (asked_by k.marks k.known) (filter (λ d. not (is_listed is_txn named.done.items d.from) && is_missing (state_of shard k) k.links d) named.edges)
-  pub chosen : AreNewTaken (IsListed is_txn k.decided.ids) k.links found.components.items
+  pub missing : (shard : Shard) → found.asks.items ≡ map (asked_by k.marks k.table.known) (filter (λ d. not (is_listed is_txn named.done.items d.from) && is_missing (state_of shard k) k.table.links d) named.edges)
+  pub chosen : AreNewTaken (IsListed is_txn k.table.decided) k.table.links found.components.items
   pub ids : found.ids.items ≡ flat_map (λ c. c) found.components.items
-  pub lacks : AreLacks k.links found.lacks.lacks
-
--- the rows that are kept, and more, are right for what is left
-pub record AreRowsFound (k : ServerData) (more : List (TxnId × List TxnId)) (left : Option Left) : Type 0 where
-  pub stay : AreRowsBehind k.links k.ancestors.rows left
-  pub added : AreAllRight (followed_behind k.links left) more
 
 -- ---- what is done before it is kept
 
 -- all but the cells and the groups is as it was, room aside
 pub record KeepsBesideRuns (old new : ServerData) : Type 0 where
-  pub known : new.known ≡ old.known
-  pub links : new.links ≡ old.links
+  pub table : new.table ≡ old.table
   pub waiting : new.waits.waiting ≡ old.waits.waiting
   pub fetches : new.waits.fetches ≡ old.waits.fetches
-  pub decided : new.decided.ids ≡ old.decided.ids
-  pub ancestors : AreSameRows old.ancestors.rows new.ancestors.rows
-  pub lacks : new.lacks ≡ old.lacks
   pub index : new.index ≡ old.index
   pub marks : new.marks ≡ old.marks
   pub taken : new.taken.components ≡ old.taken.components
@@ -142,8 +106,6 @@ all_told plan shard askers started news again ids asks =
 -- there is room for what was found
 pub record HasRoomToKeep (k : ServerData) (found : Found) : Type 0 where
   pub asks : length found.asks.items ≤ k.waits.spare
-  pub rows : length found.rows ≤ k.ancestors.spare
-  pub ids : length found.ids.items ≤ k.decided.spare
   pub components : length found.components.items ≤ k.taken.spare
 
 -- what is decided ran, all is sent, and there is room for what was found
@@ -161,13 +123,11 @@ pub record Acts (plan : Plan) (shard : Shard) (old new : ServerData) (sends more
 pub record KeepsFound (old new : ServerData) (news : List KnownList) (found : Found) : Type 0 where
   pub rows : new.rows ≡ old.rows
   pub started : new.started.groups ≡ old.started.groups
-  pub known : new.known ≡ old.known
-  pub links : new.links ≡ old.links
+  pub known : new.table.known ≡ old.table.known
+  pub links : new.table.links ≡ old.table.links
+  pub decided : IsRisingListOf (IsListed is_txn (old.table.decided ++ found.ids.items)) new.table.decided
   pub waiting : new.waits.waiting ≡ waiting_after old.waits.waiting news found.asks.items
   pub fetches : new.waits.fetches ≡ open_after old.waits.fetches news found.asks.items
-  pub lacks : new.lacks ≡ found.lacks.lacks
-  pub least : (known : List KnownList) → AreRows known old.ancestors.rows → AreAllRight known found.rows → AreRows known new.ancestors.rows
-  pub decided : IsRisingListOf (IsListed is_txn (old.decided.ids ++ found.ids.items)) new.decided.ids
   pub index : AreOut found.ids.items old.index new.index
   pub marks : new.marks ≡ old.marks
   pub taken : new.taken.components ≡ old.taken.components ++ found.components.items
@@ -176,7 +136,7 @@ pub record KeepsFound (old new : ServerData) (news : List KnownList) (found : Fo
 -- before and after
 pub record Taken (plan : Plan) (shard : Shard) (old : ServerData) (state : ServerState) (before after : Collected) (news : List KnownList) (again : Option TxnId) : Type 0 where
   pub components : List (List TxnId)
-  pub chosen : AreNewTaken (IsListed is_txn old.decided.ids) (old.links ++ links_of (state_of shard old) news) components
+  pub chosen : AreNewTaken (IsListed is_txn old.table.decided) (old.table.links ++ links_of (state_of shard old) news) components
   pub own : state.shard ≡ shard
   pub lists : state.lists ≡ lists_after (state_of shard old) news components
   pub below : state.below ≡ old.marks
@@ -200,21 +160,21 @@ KeepsPlans old new = (plan : Plan) → AreGroupsOf plan old → AreGroupsOf plan
 -- new lists are taught, with all that comes of it
 pub record Teaches (plan : Plan) (shard : Shard) (old : ServerData) (state : ServerState) (before after : Collected) (news : List KnownList) (again : Option TxnId) (answer : Handled) : Type 0 where
   pub components : List (List TxnId)
-  pub are_new : AreNewTaken (IsDecided old.links) (old.links ++ links_of (state_of shard old) news) components
+  pub are_new : AreNewTaken (IsDecided old.table.links) (old.table.links ++ links_of (state_of shard old) news) components
   pub shown : ShowsStep (forgetting (with_own plan again (taught plan (state_of shard old) news components))) answer state before after
   pub groups : KeepsPlans old.started.groups state.started
 
 -- a commit was taken, or refused
 pub record Commits (plan : Plan) (shard : Shard) (old : ServerData) (state : ServerState) (before after : Collected) (id : TxnId) (edges : List Dependency) (facts : List KnownList) (answer : Handled) : Type 0 where
   pub components : List (List TxnId)
-  pub are_new : AreNewTaken (IsDecided old.links) (links_after (state_of shard old) (Commit id edges facts)) components
-  pub shown : ShowsStep (after_commit plan old.decided.ids components (state_of shard old) id edges facts (commit_refusal (state_of shard old) id edges facts)) answer
+  pub are_new : AreNewTaken (IsDecided old.table.links) (links_after (state_of shard old) (Commit id edges facts)) components
+  pub shown : ShowsStep (after_commit plan old.table.decided components (state_of shard old) id edges facts (commit_refusal (state_of shard old) id edges facts)) answer
       state before after
   pub groups : KeepsPlans old.started.groups state.started
 
 -- a list that was asked for was taken, or refused
 pub record Knows (plan : Plan) (shard : Shard) (old : ServerData) (state : ServerState) (before after : Collected) (id : TxnId) (edges : List Dependency) (answer : Handled) : Type 0 where
   pub components : List (List TxnId)
-  pub are_new : AreNewTaken (IsDecided old.links) (links_after (state_of shard old) (Known id edges)) components
+  pub are_new : AreNewTaken (IsDecided old.table.links) (links_after (state_of shard old) (Known id edges)) components
   pub shown : ShowsStep (after_known plan components (state_of shard old) id edges (known_refusal (state_of shard old) id edges)) answer state before after
   pub groups : KeepsPlans old.started.groups state.started

@@ -1,20 +1,16 @@
-use Rattle.std.proofs.Common.{subst}
-use Rattle.roc_server.specs.Inner.Forgetting.{IsOverOf}
-use Rattle.roc_server.proofs.ForgetSteps.{forgettable}
-use Rattle.roc_server.proofs.NoneOver.{nothing_forgotten, nothing_over}
+use Rattle.roc_server.proofs.NoneOver.{no_ids, nothing_forgotten, nothing_over}
 use Rattle.roc_server.proofs.changes.forget_if_over.Goals as goal
 
-pub forget-requires : goal.forget-requires
-forget-requires c = forgettable c.args.kept.now c.in-Some.left (subst (IsOverOf c.args.kept.now) c.in-Some.is c.requires)
+pub returns-then-is_empty-clause-state : goal.returns-then-is_empty-clause-state
+returns-then-is_empty-clause-state c =
+    nothing_forgotten c.args.kept.now c.args.over.now (no_ids c.args.over.now c.is_empty.result c.is_empty.ensures c.if-is_empty.true) c.requires
 
-pub returns-in-Some-clause-state : goal.returns-in-Some-clause-state
-returns-in-Some-clause-state c = (c.forget.ensures (forgettable c.args.kept.now c.in-Some.left (subst (IsOverOf c.args.kept.now) c.in-Some.is c.requires))).state
+pub returns-then-is_empty-clause-sound : goal.returns-then-is_empty-clause-sound
+returns-then-is_empty-clause-sound c =
+    nothing_over c.args.kept.now c.args.over.now (no_ids c.args.over.now c.is_empty.result c.is_empty.ensures c.if-is_empty.true) c.requires
 
-pub returns-in-Some-clause-sound : goal.returns-in-Some-clause-sound
-returns-in-Some-clause-sound c = (c.forget.ensures (forgettable c.args.kept.now c.in-Some.left (subst (IsOverOf c.args.kept.now) c.in-Some.is c.requires))).sound
+pub returns-clause-state : goal.returns-clause-state
+returns-clause-state c = c.forget.ensures.state
 
-pub returns-in_default-clause-state : goal.returns-in_default-clause-state
-returns-in_default-clause-state c = nothing_forgotten c.args.kept.now (subst (IsOverOf c.args.kept.now) c.in_default.is c.requires)
-
-pub returns-in_default-clause-sound : goal.returns-in_default-clause-sound
-returns-in_default-clause-sound c = nothing_over c.args.kept.now (subst (IsOverOf c.args.kept.now) c.in_default.is c.requires)
+pub returns-clause-sound : goal.returns-clause-sound
+returns-clause-sound c = c.forget.ensures.sound

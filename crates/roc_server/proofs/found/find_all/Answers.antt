@@ -1,44 +1,39 @@
-use Rattle.std.proofs.Common.{List, [], ◌≡◌, ◌++◌, ◌∙◌, ◌&&◌, not, map, filter, refl, subst, sym}
+use Rattle.std.proofs.Common.{List, ℕ, [], ◌≡◌, ◌++◌, ◌∙◌, ◌&&◌, not, map, filter, refl, ap, subst, sym}
+use Rattle.std.proofs.lemmas.List.Concat.{flat_map-append}
+use Rattle.std.proofs.lemmas.List.Elements.{filter-append}
 use Rattle.std.specs.List.{flat_map}
 use Rattle.roc_sequence.specs.Places.{is_listed, IsListed}
 use Rattle.roc_base.specs.declared.id.TxnId.{TxnId}
 use Rattle.roc_base.specs.TxnId.{is_txn}
-use Rattle.roc_step.specs.New.{AreNewTaken}
-use Rattle.roc_server.specs.Inner.Left.{IsOver}
+use Rattle.roc_depgraph.specs.Closure.{IsRisingListOf}
+use Rattle.roc_step.specs.Forgets.{is_over, over}
 use Rattle.roc_step.specs.Lists.{is_missing}
+use Rattle.roc_server.specs.Inner.Over.{AreOver}
 use Rattle.roc_server.specs.Inner.ServerData.{state_of}
 use Rattle.roc_server.specs.Inner.Taught.{asked_by}
-use Rattle.roc_server.proofs.NewlyDecided.{chosen, rows_closed, rows_now}
 use Rattle.roc_server.proofs.found.find_all.Goals as goal
 
 -- all of the members were put behind none
 listed_are : {none all : List TxnId} {components lent : List (List TxnId)} → none ≡ [] → all ≡ none ++ flat_map (λ c. c) lent → lent ≡ components → all ≡ flat_map (λ c. c) components
 listed_are n e l = e ∙ (λ i. n i ++ flat_map (λ c. c) (l i))
 
-pub left_of_new-requires-clause-chosen : goal.left_of_new-requires-clause-chosen
-left_of_new-requires-clause-chosen c =
-    let new = chosen c.args.kept.now c.args.news.now c.requires.learning c.deref-2.result.now c.in_ok-lacks.lacks.decided c.decided.result.now c.in_ok-components.components.items
-    (c.deref-2.ensures.value ∙ c.in_ok-of_news.ensures) c.in_ok-lacks.ensures.decided c.decided.ensures c.in_ok-components.ensures in
-    subst (AreNewTaken (IsListed is_txn c.args.kept.now.decided.ids) c.args.kept.now.links) (sym c.deref-4.ensures.value) new
+-- where none that was taken is over, what is over is so of those that come
+over_more : (marks : List ℕ) (taken none lent components : List (List TxnId)) (ids : List TxnId) → over marks taken ≡ [] → none ≡ [] → lent ≡ components → AreOver marks (none ++ lent) ids → AreOver marks (taken ++ components) ids
+over_more marks taken none lent components ids none_over nil is are =
+    let apart : over marks (taken ++ components) ≡ over marks taken ++ over marks components =
+    ap (flat_map (λ c. c)) (filter-append (is_over marks) taken components) ∙ flat_map-append (λ c. c) (filter (is_over marks) taken) (filter (is_over marks) components) in
+    let same : over marks (none ++ lent) ≡ over marks (taken ++ components) = (λ i. over marks (nil i ++ is i)) ∙ sym (apart ∙ ap (λ ts. ts ++ over marks components) none_over) in
+    subst (λ ts. IsRisingListOf (IsListed is_txn ts) ids) same are
 
-pub left_of_new-requires-clause-rows : goal.left_of_new-requires-clause-rows
-left_of_new-requires-clause-rows c = rows_now c.args.kept.now c.args.news.now c.requires.learning
-
-pub left_of_new-requires-clause-closed : goal.left_of_new-requires-clause-closed
-left_of_new-requires-clause-closed c = rows_closed c.args.kept.now c.args.news.now c.requires.learning
-
-pub returns-clause-left : goal.returns-clause-left
-returns-clause-left c =
-    let k = c.args.kept.now in
-    subst (λ (cs : List (List TxnId)). IsOver k.marks (k.taken.components ++ cs) k.links c.in_ok-rows.left) c.deref-4.ensures.value c.in_ok-rows.ensures.left
+pub returns-clause-over : goal.returns-clause-over
+returns-clause-over c =
+    over_more c.args.kept.now.marks c.args.kept.now.taken.components _ _ c.in_ok-components.components.items c.in_ok-over.over.items c.requires.none_over refl c.deref-3.ensures.value c.in_ok-over.ensures
 
 pub returns-clause-finds : goal.returns-clause-finds
 returns-clause-finds c = record {
   missing = λ shard. c.in_ok-asks.ensures (state_of shard c.args.kept.now) refl refl
-      ∙ (λ i. map (asked_by c.args.kept.now.marks c.args.kept.now.known)
-      (filter (λ d. not (is_listed is_txn (c.deref.ensures.value i) d.from) && is_missing (state_of shard c.args.kept.now) c.args.kept.now.links d) (c.as_slice.ensures.entries i)));
-  chosen = chosen c.args.kept.now c.args.news.now c.requires.learning c.deref-2.result.now c.in_ok-lacks.lacks.decided c.decided.result.now c.in_ok-components.components.items
-      (c.deref-2.ensures.value ∙ c.in_ok-of_news.ensures) c.in_ok-lacks.ensures.decided c.decided.ensures c.in_ok-components.ensures;
-  ids = listed_are c.new-ids.ensures.items c.in_ok-push_members.ensures c.deref-3.ensures.value;
-  lacks = c.in_ok-lacks.ensures.lacks;
+      ∙ (λ i. map (asked_by c.args.kept.now.marks c.args.kept.now.table.known)
+      (filter (λ d. not (is_listed is_txn (c.deref.ensures.value i) d.from) && is_missing (state_of shard c.args.kept.now) c.args.kept.now.table.links d) (c.as_slice.ensures.entries i)));
+  chosen = c.in_ok-components.ensures.taken;
+  ids = listed_are c.new-ids.ensures.items c.in_ok-push_members.ensures c.deref-2.ensures.value;
 }

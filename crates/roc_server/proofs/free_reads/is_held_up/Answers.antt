@@ -12,9 +12,9 @@ returns-then-started_against c =
     let k = c.args.kept.now in
     let change = c.args.change.now in
     let uses = c.args.uses.now in
-    let of : List TxnId → Bool = λ newly. is_held_up (λ t. is_listed is_txn k.decided.ids t || is_listed is_txn newly t) uses k.started.groups in
+    let of : List TxnId → Bool = λ newly. is_held_up (λ t. is_listed is_txn k.table.decided t || is_listed is_txn newly t) uses k.started.groups in
     let found : c.started_against.result ≡ of c.newly_decided.result.now =
-    c.started_against.ensures ∙ held_by_cell k.decided.ids c.newly_decided.result.now k.index k.started.groups uses (planned_once k change c.requires) (planned_index k change c.requires) in
+    c.started_against.ensures ∙ held_by_cell k.table.decided c.newly_decided.result.now k.index k.started.groups uses (planned_once k change c.requires) (planned_index k change c.requires) in
     held_first (decided_then k change) uses k.started.groups (entered change) (ap of (sym c.newly_decided.ensures) ∙ sym found ∙ c.if-started_against.true)
 
 pub returns : goal.returns
@@ -22,8 +22,8 @@ returns c =
     let k = c.args.kept.now in
     let change = c.args.change.now in
     let uses = c.args.uses.now in
-    let of : List TxnId → Bool = λ newly. is_held_up (λ t. is_listed is_txn k.decided.ids t || is_listed is_txn newly t) uses k.started.groups in
+    let of : List TxnId → Bool = λ newly. is_held_up (λ t. is_listed is_txn k.table.decided t || is_listed is_txn newly t) uses k.started.groups in
     let found : c.started_against.result ≡ of c.newly_decided.result.now =
-    c.started_against.ensures ∙ held_by_cell k.decided.ids c.newly_decided.result.now k.index k.started.groups uses (planned_once k change c.requires) (planned_index k change c.requires) in
+    c.started_against.ensures ∙ held_by_cell k.table.decided c.newly_decided.result.now k.index k.started.groups uses (planned_once k change c.requires) (planned_index k change c.requires) in
     held_else (decided_then k change) uses k.started.groups (entered change) c.starts_against.result
     (ap of (sym c.newly_decided.ensures) ∙ sym found ∙ c.if-started_against.false) c.starts_against.ensures

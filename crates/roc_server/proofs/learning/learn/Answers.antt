@@ -1,31 +1,44 @@
-use Rattle.std.proofs.Common.{◌≡◌, ◌++◌, ◌∙◌, refl, sym, ap, subst}
-use Rattle.roc_server_lists.proofs.FollowedLinks.{links_ids}
-use Rattle.roc_step.proofs.SameIds.{learnable_alike}
-use Rattle.roc_server.specs.declared.server_data.ServerData.{ServerData}
-use Rattle.roc_step.specs.Below.{is_ended}
-use Rattle.roc_server.specs.Inner.ServerData.{state_of, IsSame}
-use Rattle.roc_server.specs.Inner.Taught.{FollowsNews}
+use Rattle.std.proofs.Common.{◌≡◌, ◌++◌, ◌∙◌, List, Bool, map, filter, refl, sym, ap, subst}
+use Rattle.std.specs.List.Sorted.{IsStrictlySortedBy}
+use Rattle.roc_sequence.specs.Places.{is_listed}
+use Rattle.roc_base.specs.declared.id.TxnId.{TxnId}
+use Rattle.roc_base.specs.Edge.{Dependency}
+use Rattle.roc_base.specs.TxnId.{is_txn, txn_cmp}
+use Rattle.roc_base.specs.Edges.{united}
+use Rattle.roc_step.specs.Links.{all_entries, without_links}
+use Rattle.roc_step.proofs.WithoutLinks.{all_without_alike}
+use Rattle.roc_step.specs.Lists.{is_done}
+use Rattle.roc_server.specs.Inner.ServerData.{state_of}
+use Rattle.roc_server.specs.Inner.Taught.{is_done_with}
+use Rattle.roc_server.proofs.DoneSteps.{done_rise, done_listed, done_with_news}
 use Rattle.roc_server.proofs.learning.learn.Goals as goal
 
-pub learn_followed-requires : goal.learn_followed-requires
-learn_followed-requires c =
-    let old = c.args.kept.now in
-    learnable_alike old.known old.links c.args.news.now c.args.news.now (links_ids (is_ended old.marks) old.known old.links c.requires.sound.right.linked) refl c.requires.learnable
-
-pub returns-in-Ok-clause-ok : goal.returns-in-Ok-clause-ok
-returns-in-Ok-clause-ok c =
-    let old = c.args.kept.now in
+pub learn-requires-clause-rising : goal.learn-requires-clause-rising
+learn-requires-clause-rising c =
+    let s = state_of c.args.shard c.args.kept.now in
+    let known = c.args.kept.now.table.known in
     let news = c.args.news.now in
-    let s = state_of c.args.shard old in
-    let known_is = c.in_ok-learn_news.ensures.ok in
-    let f : FollowsNews c.args.shard (record old { known = old.known ++ news }) c.learn_followed.new.kept news c.in-Ok.named =
-    subst (λ ks. FollowsNews c.args.shard (record old { known = ks }) c.learn_followed.new.kept news c.in-Ok.named) known_is c.in-Ok.ensures.ok in
-    record { is = f.is s refl refl refl; edges = f.edges; rising = f.rising; done = f.done s refl refl refl }
+    subst (IsStrictlySortedBy txn_cmp) (sym c.deref.ensures.value)
+    (done_rise (is_done s (known ++ news)) (all_entries news) c.in_ok-done.done.items
+    (c.in_ok-done.ensures s refl refl refl ∙ ap (λ (es : List Dependency). map (λ (d : Dependency). d.from) (filter (is_done_with s known) es)) (c.as_slice.ensures.entries ∙ c.in_ok-edges.ensures) ∙ done_with_news s known news))
 
-pub returns-in-Err-clause-err : goal.returns-in-Err-clause-err
-returns-in-Err-clause-err c =
+pub returns-clause-ok : goal.returns-clause-ok
+returns-clause-ok c =
     let old = c.args.kept.now in
-    let kept_is = c.in-Err.ensures.err in
-    let gone : c.forget_news.new.known ≡ old.known =
-    c.forget_news.ensures (record { before = old.known; known_are = ap (λ (k : ServerData). k.known) kept_is ∙ c.in_ok-learn_news.ensures.ok; learnable = c.requires.learnable }) in
-    subst (IsSame old) (λ i. record (sym kept_is i) { known = sym gone i }) (record { state = λ at. refl; sound = c.requires.sound })
+    let s = state_of c.args.shard old in
+    let known = old.table.known in
+    let news = c.args.news.now in
+    let ids = c.in_ok-done.done.items in
+    let done : TxnId → Bool = is_done s (known ++ news) in
+    let are : ids ≡ map (λ (d : Dependency). d.from) (filter (λ (d : Dependency). done d.from) (united (all_entries news))) =
+    c.in_ok-done.ensures s refl refl refl ∙ ap (λ (es : List Dependency). map (λ (d : Dependency). d.from) (filter (is_done_with s known) es)) (c.as_slice.ensures.entries ∙ c.in_ok-edges.ensures) ∙ done_with_news s known news in
+    let listed = done_listed done (all_entries news) ids are in
+    let links =
+    c.in_ok-learn.ensures.links ∙ ap (λ (ds : List TxnId). old.table.links ++ map (without_links (is_listed is_txn ds)) news) c.deref.ensures.value
+    ∙ ap (λ ks. old.table.links ++ ks) (all_without_alike (is_listed is_txn ids) done news listed) in
+    record {
+      is = λ i. record old { table = record { known = c.in_ok-learn.ensures.known i; links = links i; decided = c.in_ok-learn.ensures.decided i } };
+      edges = c.in_ok-edges.ensures;
+      rising = done_rise done (all_entries news) ids are;
+      done = listed;
+    }

@@ -2,27 +2,27 @@ use Rattle.std.proofs.Common.{◌∙◌, ◌++◌, ◌∷◌, [], map, filter, s
 use Rattle.roc_sequence.proofs.Fronts.{front_whole}
 use Rattle.roc_base.specs.declared.id.TxnId.{TxnId}
 use Rattle.roc_base.specs.Edge.{Dependency}
-use Rattle.roc_step.specs.Lists.{is_done}
+use Rattle.roc_server.specs.Inner.Taught.{is_done_with}
 use Rattle.roc_server.proofs.Pairs.{passed_more, failed_more}
 use Rattle.roc_server.proofs.missing.done_of.Goals as goal
-use Rattle.roc_server.proofs.missing.done_of.Goals.{then-is_done+in_ok-push, else-is_done}
+use Rattle.roc_server.proofs.missing.done_of.Goals.{then-is_done_with+in_ok-push, else-is_done_with}
 
 pub loop-edge-preserved : goal.loop-edge-preserved
 loop-edge-preserved c s own marks started =
-    let known = c.args.kept.now.known in
+    let known = c.args.kept.now.table.known in
     let so_far = c.loop-edge.invariant s own marks started in
     let item = sym c.edge-item.is in
-    elim c.if-is_done.branch [
-      | then-is_done+in_ok-push w ↦
-          passed_more (λ (d : Dependency). d.from) (λ d. is_done s known d.from) c.args.edges.now c.loop-edge.edge-index c.edge-item.result c.loop-edge-test.true [] c.loop-edge.done.items so_far c.if-is_done.done.items
-          (ap (λ (d : Dependency). is_done s known d.from) item ∙ ap (is_done s known) (sym c.from-id.ensures.value) ∙ sym (c.is_done.ensures s own marks started) ∙ w.if-is_done.true)
-          (ap (λ v. v.items) w.done-is ∙ w.in_ok-push.ensures.items ∙ ap (λ (t : TxnId). c.loop-edge.done.items ++ t ∷ []) (c.from-id.ensures.value ∙ ap (λ (d : Dependency). d.from) (sym item)))
-      | else-is_done w ↦
-          failed_more (λ (d : Dependency). d.from) (λ d. is_done s known d.from) c.args.edges.now c.loop-edge.edge-index c.edge-item.result c.loop-edge-test.true [] c.loop-edge.done.items so_far c.if-is_done.done.items
-          (ap (λ (d : Dependency). is_done s known d.from) item ∙ ap (is_done s known) (sym c.from-id.ensures.value) ∙ sym (c.is_done.ensures s own marks started) ∙ w.if-is_done.false) (ap (λ v. v.items) w.done-is)
+    elim c.if-is_done_with.branch [
+      | then-is_done_with+in_ok-push w ↦
+          passed_more (λ (d : Dependency). d.from) (is_done_with s known) c.args.edges.now c.loop-edge.edge-index c.edge-item.result c.loop-edge-test.true [] c.loop-edge.done.items so_far c.if-is_done_with.done.items
+          (ap (is_done_with s known) item ∙ sym (c.is_done_with.ensures s own marks started) ∙ w.if-is_done_with.true)
+          (ap (λ v. v.items) w.done-is ∙ w.in_ok-push.ensures.items ∙ ap (λ (t : TxnId). c.loop-edge.done.items ++ t ∷ []) (w.from.ensures.value ∙ ap (λ (d : Dependency). d.from) (sym item)))
+      | else-is_done_with w ↦
+          failed_more (λ (d : Dependency). d.from) (is_done_with s known) c.args.edges.now c.loop-edge.edge-index c.edge-item.result c.loop-edge-test.true [] c.loop-edge.done.items so_far c.if-is_done_with.done.items
+          (ap (is_done_with s known) item ∙ sym (c.is_done_with.ensures s own marks started) ∙ w.if-is_done_with.false) (ap (λ v. v.items) w.done-is)
     ]
 
 pub returns : goal.returns
 returns c s own marks started =
     c.loop-edge.invariant s own marks started
-    ∙ ap (λ es. map (λ d. d.from) (filter (λ d. is_done s c.args.kept.now.known d.from) es)) (front_whole c.args.edges.now c.loop-edge.edge-index c.loop-edge-test.false)
+    ∙ ap (λ es. map (λ d. d.from) (filter (is_done_with s c.args.kept.now.table.known) es)) (front_whole c.args.edges.now c.loop-edge.edge-index c.loop-edge-test.false)

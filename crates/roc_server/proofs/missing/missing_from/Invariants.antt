@@ -8,4 +8,4 @@ use Rattle.roc_server.proofs.missing.missing_from.Given as goal
 
 abbrev pub invariant-loop-edge : goal.invariant-loop-edge
 invariant-loop-edge l = (s : ServerState) → s.started ≡ l.kept.started.groups → s.lists.waiting.asked ≡ l.kept.waits.waiting.asked
-    → l.asks.items ≡ map (asked_by l.kept.marks l.kept.known) (filter (λ d. not (is_listed is_txn l.done d.from) && is_missing s l.kept.links d) (take l.edge-index l.edges))
+    → l.asks.items ≡ map (asked_by l.kept.marks l.kept.table.known) (filter (λ d. not (is_listed is_txn l.done d.from) && is_missing s l.kept.table.links d) (take l.edge-index l.edges))

@@ -1,35 +1,31 @@
-use Rattle.std.proofs.Common.{◌≡◌, ℕ, sym, subst}
-use Rattle.std.proofs.lemmas.Result.{IfOk-weaker}
+use Rattle.std.proofs.Common.{◌≡◌, ◌++◌, ◌∙◌, List, Some, None, is_some, refl, ap, subst}
+use Rattle.std.specs.List.{flat_map}
+use Rattle.std.specs.Option.{option_copied}
 use Rattle.roc_base.specs.declared.id.TxnId.{TxnId}
-use Rattle.roc_depgraph.specs.Deps.{is_known}
-use Rattle.roc_server.specs.Inner.Settled.{AreSettled, AreUnknown, IsSettling}
-use Rattle.roc_server.proofs.FoundSettled.{are_unknown, found_known}
+use Rattle.roc_base.specs.TxnId.{is_txn}
+use Rattle.roc_sequence.specs.Places.{IsListed}
+use Rattle.roc_server_table.specs.Kept.{TableLists}
+use Rattle.roc_step.specs.New.{AreNewTaken}
+use Rattle.roc_server.specs.Inner.Over.{AreOver}
+use Rattle.roc_server.specs.Inner.Settled.{links_settled}
 use Rattle.roc_server.proofs.settled.find_settled.Goals as goal
 
-pub find_less-requires-clause-unknown : goal.find_less-requires-clause-unknown
-find_less-requires-clause-unknown c =
+pub returns-clause-found : goal.returns-clause-found
+returns-clause-found c =
     let k = c.args.kept.now in
-    let known : c.is_some-is_known.result ≡ is_known k.known c.args.id = found_known c.is_some-is_known.result k.known c.args.id c.list.result c.is_some-is_known.ensures c.list.ensures in
-    subst (AreUnknown k.links) (sym c.deref.ensures.value)
-    (are_unknown k c.requires.sound.right c.args.id c.raised-marks.result c.in_ok-settled.settled.items c.is_some-is_known.result c.in_ok-settled.ensures.listed known c.if-not-is_known.true)
+    let copied = elim c.list.result as (λ o. is_some o ≡ is_some (option_copied o)) [ None ↦ refl | Some x ↦ refl ] in
+    record {
+      marks = c.raised-marks.ensures;
+      settled = c.in_ok-settled.ensures;
+      is_known = c.is_some-is_known.ensures ∙ copied ∙ ap is_some c.list.ensures;
+      chosen =
+          subst (λ (ids : List TxnId). AreNewTaken (IsListed is_txn k.table.decided) (links_settled k.table.links ids) c.in_ok-components.components.items)
+          c.deref.ensures.value c.in_ok-components.ensures.taken;
+      ids = c.in_ok-push_members.ensures ∙ (λ i. c.new-ids.ensures.items i ++ flat_map (λ x. x) (c.deref-2.ensures.value i));
+      over =
+          subst (λ cs. AreOver c.raised-marks.result cs c.in_ok-over.over.items) (λ i. c.as_slice.ensures i ++ c.deref-3.ensures.value i)
+          c.in_ok-over.ensures;
+    }
 
-pub settle_less-requires-clause-unknown : goal.settle_less-requires-clause-unknown
-settle_less-requires-clause-unknown c =
-    let k = c.args.kept.now in
-    let known : c.is_some-is_known.result ≡ is_known k.known c.args.id = found_known c.is_some-is_known.result k.known c.args.id c.list.result c.is_some-is_known.ensures c.list.ensures in
-    are_unknown k c.requires.sound.right c.args.id c.raised-marks.result c.in_ok-settled.settled.items c.is_some-is_known.result c.in_ok-settled.ensures.listed known c.if-not-is_known.true
-
-pub find_more-requires-clause-unknown : goal.find_more-requires-clause-unknown
-find_more-requires-clause-unknown c none =
-    let k = c.args.kept.now in
-    let known : c.is_some-is_known.result ≡ is_known k.known c.args.id = found_known c.is_some-is_known.result k.known c.args.id c.list.result c.is_some-is_known.ensures c.list.ensures in
-    are_unknown k c.requires.sound.right c.args.id c.raised-marks.result c.in_ok-settled.settled.items c.is_some-is_known.result c.in_ok-settled.ensures.listed known none
-
-pub returns : goal.returns
-returns c =
-    let k = c.args.kept.now in
-    let known : c.is_some-is_known.result ≡ is_known k.known c.args.id = found_known c.is_some-is_known.result k.known c.args.id c.list.result c.is_some-is_known.ensures c.list.ensures in
-    let are : AreSettled k c.args.id c.args.mark c.raised-marks.result c.in_ok-settled.settled.items c.is_some-is_known.result = record { marks_are = c.raised-marks.ensures; listed = c.in_ok-settled.ensures.listed; rising = c.in_ok-settled.ensures.rising; known_is = known } in
-    IfOk-weaker c.find_more.result (λ f. (id : TxnId) (mark : ℕ) → AreSettled k id mark c.raised-marks.result c.in_ok-settled.settled.items c.is_some-is_known.result → IsSettling k id mark f) (IsSettling k c.args.id c.args.mark)
-    (λ f h. h c.args.id c.args.mark are)
-    c.find_more.ensures
+pub returns-clause-same : goal.returns-clause-same
+returns-clause-same c = ap (λ (t : TableLists). record c.args.kept.now { table = t }) c.find_taken_without.ensures.same

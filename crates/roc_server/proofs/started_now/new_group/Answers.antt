@@ -17,10 +17,10 @@ returns-clause-new c =
     let s : ServerState = state_of c.args.shard k in
     let immediate : c.is_immediate-immediate.result ≡ is_immediate_group plan (asked r) = c.is_immediate-immediate.ensures in
     let cells : c.as_slice.result.now ≡ group_uses plan (asked r) k.rows.store = c.as_slice.ensures ∙ c.in_ok-bound.ensures.cells in
-    let edges : c.in_ok-edges.edges ≡ edges_for plan k.decided.ids s r.id (asked r) = c.in_ok-edges.ensures ∙ (λ i. entries_for plan k.decided.ids s r.id (immediate i) (cells i)) in
+    let edges : c.in_ok-edges.edges ≡ edges_for plan k.table.decided s r.id (asked r) = c.in_ok-edges.ensures ∙ (λ i. entries_for plan k.table.decided s r.id (immediate i) (cells i)) in
     record {
       reached = f.reached;
-      led = subst (λ (es : List Dependency). AreLedTo k.links es f.reached) (c.as_slice-2.ensures.entries ∙ edges) f.led;
+      led = subst (λ (es : List Dependency). AreLedTo k.table.links es f.reached) (c.as_slice-2.ensures.entries ∙ edges) f.led;
       is = (λ i. let e : StartedGroup = record {
         id = r.id;
         proc = r.proc;
@@ -36,12 +36,8 @@ returns-clause-new c =
       } in e);
       store = c.in_ok-bound.ensures.store;
       started = refl;
-      known = refl;
-      links = refl;
+      table = refl;
       waits = refl;
-      decided = refl;
-      ancestors = refl;
-      lacks = refl;
       index = λ d. refl;
       marks = refl;
       taken = refl;

@@ -13,5 +13,5 @@ returns-clause-ok c =
     (λ room.
     acts c.args.plan.now c.args.shard c.args.kept.now c.make_room.new.kept c.run_decided.new.rows c.run_decided.new.started.groups c.args.sends.now c.run_decided.new.sends c.send_all.new.sends
     c.args.news.now c.args.again c.args.found.now c.deref.result.now c.deref.ensures.value c.in_ok-run_decided.ensures.ok c.in_ok-send_all.ensures
-    (record { known = b.known; links = b.links; waiting = b.waiting; fetches = b.fetches; decided = b.decided; ancestors = b.ancestors; lacks = b.lacks; index = b.index; marks = b.marks; taken = b.taken }) c.make_room.ensures.rows c.make_room.ensures.started room)
+    (record { table = b.table; waiting = b.waiting; fetches = b.fetches; index = b.index; marks = b.marks; taken = b.taken }) c.make_room.ensures.rows c.make_room.ensures.started room)
     c.make_room.ensures.room

@@ -4,4 +4,4 @@ use Rattle.roc_step.specs.Carried.{unknown_of}
 use Rattle.roc_server_lists.proofs.news.push_behind.Given as goal
 
 abbrev pub invariant-loop-fact : goal.invariant-loop-fact
-invariant-loop-fact l = l.news.items ≡ l.initial.news.items ++ unknown_of l.known (filter (λ f. txn_lt l.fn.id f.of) (take l.fact-index l.facts))
+invariant-loop-fact l = l.news.items ≡ l.initial.news.items ++ unknown_of l.table.known (filter (λ f. txn_lt l.fn.id f.of) (take l.fact-index l.facts))

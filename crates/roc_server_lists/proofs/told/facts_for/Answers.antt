@@ -4,7 +4,7 @@ use Rattle.std.specs.List.Sorted.{IsStrictlySortedBy}
 use Rattle.roc_base.specs.TxnId.{txn_cmp}
 use Rattle.roc_depgraph.specs.Deps.{entries_of}
 use Rattle.roc_msg.specs.Facts.{most_facts, most_fact_edges}
-use Rattle.roc_server_ancestors.proofs.Fronts.{taken_rises}
+use Rattle.roc_server_reach.proofs.Fronts.{taken_rises}
 use Rattle.roc_step.specs.Piggyback.{facts_of}
 use Rattle.roc_server_lists.proofs.ToldFacts.{front_of_front}
 use Rattle.roc_server_lists.proofs.told.facts_for.Goals as goal
@@ -24,7 +24,7 @@ returns c =
       led = l.rising;
       are =
           is
-          ∙ ap (facts_of c.args.known.now) (c.deref.ensures.value ∙ l.first)
-          ∙ front_of_front (λ u. record { of = u; edges = entries_of c.args.known.now u }) most_facts most_fact_edges l.all;
+          ∙ ap (facts_of c.args.table.now.known) (c.deref.ensures.value ∙ l.first)
+          ∙ front_of_front (λ u. record { of = u; edges = entries_of c.args.table.now.known u }) most_facts most_fact_edges l.all;
     })
     c.facts_of.ensures

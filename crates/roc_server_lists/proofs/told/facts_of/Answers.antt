@@ -13,7 +13,7 @@ use Rattle.roc_server_lists.proofs.told.facts_of.Goals as goal
 pub loop-id-preserved : goal.loop-id-preserved
 loop-id-preserved c =
     let none : TxnId = record { coord = 0; seq = 0 } in
-    let f : TxnId → KnownList = λ u. record { of = u; edges = entries_of c.args.known.now u } in
+    let f : TxnId → KnownList = λ u. record { of = u; edges = entries_of c.args.table.now.known u } in
     let all = c.args.ids.now in
     let i = c.loop-id.id-index in
     let x = get_or all i none in
@@ -39,20 +39,20 @@ pub loop-id-init : goal.loop-id-init
 loop-id-init c =
     let ids : List TxnId = c.args.ids.now in
     record {
-      whole = ap (λ xs. xs ++ facts_of c.args.known.now ids) (sym c.new-facts.ensures);
+      whole = ap (λ xs. xs ++ facts_of c.args.table.now.known ids) (sym c.new-facts.ensures);
       behind = subst (λ (xs : List KnownList). AreBehind xs ids) (sym c.new-facts.ensures) (behind_none ids);
     }
 
 pub returns-then-room-eq0 : goal.returns-then-room-eq0
 returns-then-room-eq0 c =
-    let f : TxnId → KnownList = λ u. record { of = u; edges = entries_of c.args.known.now u } in
+    let f : TxnId → KnownList = λ u. record { of = u; edges = entries_of c.args.table.now.known u } in
     let front : ℕ → List KnownList = λ n. c.loop-id.facts ++ front_of_facts n c.loop-id.left (map f (drop c.loop-id.id-index c.args.ids.now)) in
     sym (c.loop-id.invariant.whole ∙ ap front c.if-room-eq0.true ∙ append-nil c.loop-id.facts)
 
 pub returns-then-len-left : goal.returns-then-len-left
 returns-then-len-left c =
     let none : TxnId = record { coord = 0; seq = 0 } in
-    let f : TxnId → KnownList = λ u. record { of = u; edges = entries_of c.args.known.now u } in
+    let f : TxnId → KnownList = λ u. record { of = u; edges = entries_of c.args.table.now.known u } in
     let all = c.args.ids.now in
     let i = c.loop-id.id-index in
     let x = get_or all i none in
@@ -63,7 +63,7 @@ returns-then-len-left c =
 
 pub returns : goal.returns
 returns c =
-    let f : TxnId → KnownList = λ u. record { of = u; edges = entries_of c.args.known.now u } in
+    let f : TxnId → KnownList = λ u. record { of = u; edges = entries_of c.args.table.now.known u } in
     let front : List TxnId → List KnownList = λ ids. c.loop-id.facts ++ front_of_facts c.loop-id.room c.loop-id.left (map f ids) in
     sym (c.loop-id.invariant.whole ∙ ap front (drop_all c.loop-id.id-index c.args.ids.now c.loop-id-test.false)
     ∙ ap (λ xs. c.loop-id.facts ++ xs) (front_nothing c.loop-id.room c.loop-id.left) ∙ append-nil c.loop-id.facts)

@@ -7,6 +7,6 @@ use Rattle.roc_server_lists.proofs.told.facts_of.Given as goal
 
 abbrev pub invariant-loop-id : goal.invariant-loop-id
 invariant-loop-id l = record {
-  whole : facts_of l.known l.ids ≡ l.facts ++ front_of_facts l.room l.left (map (λ u. record { of = u; edges = entries_of l.known u }) (drop l.id-index l.ids));
+  whole : facts_of l.table.known l.ids ≡ l.facts ++ front_of_facts l.room l.left (map (λ u. record { of = u; edges = entries_of l.table.known u }) (drop l.id-index l.ids));
   behind : AreBehind l.facts (drop l.id-index l.ids);
 }

@@ -6,5 +6,5 @@ use Rattle.roc_server.proofs.server.Server.decided.Goals as goal
 
 pub returns : goal.returns
 returns c =
-    subst (λ (v : Serving). IsTrue c.contains.result ↔ IsDecided v.state.lists.links c.args.id) c.self.view_is
-    (decided_before c.self.inside.kept c.self.inside.ahead c.args.id c.contains.result c.self.invariant.0 c.contains.ensures)
+    subst (λ (v : Serving). IsTrue c.is_decided.result ↔ IsDecided v.state.lists.links c.args.id) c.self.view_is
+    (decided_before c.self.inside.kept c.self.inside.ahead c.args.id c.is_decided.result c.self.invariant.0 c.is_decided.ensures)

@@ -28,7 +28,7 @@ entries-requires-clause-once g c = subst (λ (l : ServerData). NoneTwice is_same
 
 pub entries-requires-clause-index : goal.entries-requires-clause-index
 entries-requires-clause-index g c =
-    subst (λ (l : ServerData). IsIndexOf l.index l.decided.ids l.started.groups) (sym c.new-groups.ensures) (index_now c.self.inside.kept c.self.inside.ahead c.self.invariant.0)
+    subst (λ (l : ServerData). IsIndexOf l.index l.table.decided l.started.groups) (sym c.new-groups.ensures) (index_now c.self.inside.kept c.self.inside.ahead c.self.invariant.0)
 
 pub returns-clause-entries : goal.returns-clause-entries
 returns-clause-entries g c =
@@ -41,14 +41,14 @@ returns-clause-entries g c =
     let immediate = c.is_immediate.result in
     let P : ServerState → Bool → Type 0 = λ s b. IfOk c.entries.result (λ e. (left_out : List TxnId) → AreDecided s.lists.links left_out → e ≡ entries_for plan left_out s c.args.id b cells) in
     let over : List TxnId → List StartedGroup → List Dependency = λ ids es. united (map (edge_to shard immediate) (filter (conflicts_before plan ids c.args.id immediate cells) es)) in
-    let found : IfOk c.entries.result (λ e. e ≡ over k.decided.ids k.started.groups) =
-    subst (λ (l : ServerData). IfOk c.entries.result (λ e. e ≡ over l.decided.ids l.started.groups)) c.new-groups.ensures c.entries.ensures.entries in
-    let moved : IfOk c.entries.result (λ e. e ≡ over k.decided.ids was.started.groups) =
+    let found : IfOk c.entries.result (λ e. e ≡ over k.table.decided k.started.groups) =
+    subst (λ (l : ServerData). IfOk c.entries.result (λ e. e ≡ over l.table.decided l.started.groups)) c.new-groups.ensures c.entries.ensures.entries in
+    let moved : IfOk c.entries.result (λ e. e ≡ over k.table.decided was.started.groups) =
     subst (λ es. IfOk c.entries.result (λ e. e ≡ es))
-    (ap united (over_same (edge_to shard immediate) (conflicts_before plan k.decided.ids c.args.id immediate cells) (λ e. refl) (λ e. refl) was.started.groups k.started.groups (same_before k ahead c.self.invariant.0)))
+    (ap united (over_same (edge_to shard immediate) (conflicts_before plan k.table.decided c.args.id immediate cells) (λ e. refl) (λ e. refl) was.started.groups k.started.groups (same_before k ahead c.self.invariant.0)))
     found in
     let here : P (state_of shard was) immediate =
-    for_decided c.entries.result (λ e. e) (λ left_out. entries_for plan left_out (state_of shard was) c.args.id immediate cells) was.links k.decided.ids (kept_decided k ahead c.self.invariant.0) moved in
+    for_decided c.entries.result (λ e. e) (λ left_out. entries_for plan left_out (state_of shard was) c.args.id immediate cells) was.table.links k.table.decided (kept_decided k ahead c.self.invariant.0) moved in
     subst (λ (v : Serving). P v.state (is_immediate c.args.class)) c.self.view_is (subst (P (state_of shard was)) c.is_immediate.ensures here)
 
 pub returns-clause-steps : goal.returns-clause-steps
@@ -62,9 +62,9 @@ returns-clause-steps g c =
     let immediate = c.is_immediate.result in
     let Bound : ServerState → Bool → List TxnId → Type 0 = λ s b left_out. c.entries.new.steps ≤ c.args.steps.now + length (users plan left_out b cells s.started) in
     let P : ServerState → Bool → Type 0 = λ s b. (left_out : List TxnId) → AreDecided s.lists.links left_out → Bound s b left_out in
-    let taken : c.entries.new.steps ≤ c.args.steps.now + length (users plan k.decided.ids immediate cells k.started.groups) =
-    subst (λ (l : ServerData). c.entries.new.steps ≤ c.args.steps.now + length (users plan l.decided.ids immediate cells l.started.groups)) c.new-groups.ensures c.entries.ensures.steps in
-    let moved : Bound (state_of shard was) immediate k.decided.ids =
-    subst (λ (n : ℕ). c.entries.new.steps ≤ c.args.steps.now + n) (as_many_users plan k.decided.ids immediate cells was.started.groups k.started.groups (same_before k ahead c.self.invariant.0)) taken in
-    let here : P (state_of shard was) immediate = λ left_out p. subst (Bound (state_of shard was) immediate) (rising_one (IsDecided was.links) k.decided.ids left_out (kept_decided k ahead c.self.invariant.0) p) moved in
+    let taken : c.entries.new.steps ≤ c.args.steps.now + length (users plan k.table.decided immediate cells k.started.groups) =
+    subst (λ (l : ServerData). c.entries.new.steps ≤ c.args.steps.now + length (users plan l.table.decided immediate cells l.started.groups)) c.new-groups.ensures c.entries.ensures.steps in
+    let moved : Bound (state_of shard was) immediate k.table.decided =
+    subst (λ (n : ℕ). c.entries.new.steps ≤ c.args.steps.now + n) (as_many_users plan k.table.decided immediate cells was.started.groups k.started.groups (same_before k ahead c.self.invariant.0)) taken in
+    let here : P (state_of shard was) immediate = λ left_out p. subst (Bound (state_of shard was) immediate) (rising_one (IsDecided was.table.links) k.table.decided left_out (kept_decided k ahead c.self.invariant.0) p) moved in
     subst (λ (v : Serving). P v.state (is_immediate c.args.class)) c.self.view_is (subst (P (state_of shard was)) c.is_immediate.ensures here)

@@ -20,8 +20,8 @@ returns c =
     let was = kept_before k ahead in
     let plan = c.args.plan.now in
     let at = state_of c.self.inside.shard was in
-    let found : IfOk c.all_waiting.result (λ groups. groups.items ≡ waiting_groups plan k.decided.ids at) =
+    let found : IfOk c.all_waiting.result (λ groups. groups.items ≡ waiting_groups plan k.table.decided at) =
     subst (λ ws. IfOk c.all_waiting.result (λ groups. groups.items ≡ ws))
-    (over_same waiting_of (is_waiting plan k.decided.ids) (λ e. refl) (λ e. refl) was.started.groups k.started.groups (same_before k ahead c.self.invariant.0)) c.all_waiting.ensures in
+    (over_same waiting_of (is_waiting plan k.table.decided) (λ e. refl) (λ e. refl) was.started.groups k.started.groups (same_before k ahead c.self.invariant.0)) c.all_waiting.ensures in
     subst (λ (v : Serving). IfOk c.all_waiting.result (λ groups. (decided : List TxnId) → AreDecided v.state.lists.links decided → groups.items ≡ waiting_groups plan decided v.state)) c.self.view_is
-    (for_decided c.all_waiting.result (λ groups. groups.items) (λ decided. waiting_groups plan decided at) was.links k.decided.ids (kept_decided k ahead c.self.invariant.0) found)
+    (for_decided c.all_waiting.result (λ groups. groups.items) (λ decided. waiting_groups plan decided at) was.table.links k.table.decided (kept_decided k ahead c.self.invariant.0) found)

@@ -1,0 +1,54 @@
+use Rattle.std.proofs.Common.{◌∙◌, ◌≤◌, [], List, length, not, map, filter, None, Some, refl, sym, ap, subst, append-nil}
+use Rattle.roc_msg.specs.declared.outbox.Ran.{Ran}
+use Rattle.roc_msg.specs.Outbox.{HasSent}
+use Rattle.roc_step.specs.Fits.{AreReadsOf, IsReadOf}
+use Rattle.roc_server.specs.Inner.Answering.{is_free_then, readok_over}
+use Rattle.roc_server.specs.Inner.Held.{viewing_of}
+use Rattle.roc_step.specs.Reads.{in_turn, reads_with, with_accesses}
+use Rattle.roc_server.proofs.ReadsOfPlan.{some_hold, with_fits}
+use Rattle.roc_server.proofs.ReadSteps.{none_ignored, plans_reads}
+use Rattle.roc_server.proofs.read_answers.prepare_reads.Goals as goal
+
+pub returns-then-not-is_taken-clause-step : goal.returns-then-not-is_taken-clause-step
+returns-then-not-is_taken-clause-step c =
+    none_ignored c.args.plan.now c.args.shard c.args.kept.now c.args.planned.now.change (viewing_of c.args.views.now) c.args.msg.now c.args.planned.now.answer c.args.sends.now (sym c.is_taken.ensures ∙ c.if-not-is_taken.true)
+
+pub returns-then-has_none-clause-step : goal.returns-then-has_none-clause-step
+returns-then-has_none-clause-step c =
+    let none = c.has_none.ensures c.if-has_none.true in
+    let same = c.as_slice.ensures.value in
+    plans_reads c.args.plan.now c.args.shard c.args.kept.now c.args.planned.now.change (viewing_of c.args.views.now) c.args.msg.now c.args.planned.now.answer c.requires.planned c.args.sends.now c.args.sends.now None []
+    (ap (reads_with c.args.msg.now c.args.planned.now.answer) (sym same) ∙ c.in_ok-read.ensures c.as_slice.result.now ∙ none.0) (sym same ∙ none.1) (sym (append-nil c.args.sends.now.messages), refl, refl) (sym c.is_taken.ensures ∙ c.if-not-is_taken.false)
+
+pub answer_free-requires-clause-fits : goal.answer_free-requires-clause-fits
+answer_free-requires-clause-fits c =
+    subst (AreReadsOf c.args.plan.now)
+    (ap (reads_with c.args.msg.now c.args.planned.now.answer) (sym c.as_slice-2.ensures.value) ∙ c.in_ok-read.ensures c.as_slice-2.result.now ∙ sym c.in_ok-reads.ensures)
+    (with_fits c.args.plan.now c.args.msg.now c.args.planned.now.answer c.args.views.now.reads.items c.requires.taken c.requires.fits)
+
+pub returns-clause-step : goal.returns-clause-step
+returns-clause-step c =
+    let plan = c.args.plan.now in
+    let k = c.args.kept.now in
+    let free = is_free_then plan k c.args.planned.now.change in
+    let all = c.in_ok-reads.reads.items in
+    let old = c.args.sends.now in
+    plans_reads plan c.args.shard k c.args.planned.now.change (viewing_of c.args.views.now) c.args.msg.now c.args.planned.now.answer c.requires.planned old c.answer_free.new.sends (Some c.in_ok-stays.stays) all
+    (ap (reads_with c.args.msg.now c.args.planned.now.answer) (sym c.as_slice-2.ensures.value) ∙ c.in_ok-read.ensures c.as_slice-2.result.now ∙ sym c.in_ok-reads.ensures) c.in_ok-stays.ensures.stays
+    (subst (λ counts. HasSent old c.answer_free.new.sends (map (readok_over plan c.args.shard k.rows.store (with_accesses counts old.ran)) (in_turn (filter free all)))) c.reserve_counts.ensures.same c.in_ok-stays.ensures.sent)
+    (sym c.is_taken.ensures ∙ c.if-not-is_taken.false)
+
+pub returns-clause-fits : goal.returns-clause-fits
+returns-clause-fits c =
+    let plan = c.args.plan.now in
+    let free = is_free_then plan c.args.kept.now c.args.planned.now.change in
+    let all = c.in_ok-reads.reads.items in
+    let fits : AreReadsOf plan all =
+    subst (AreReadsOf plan)
+    (ap (reads_with c.args.msg.now c.args.planned.now.answer) (sym c.as_slice-2.ensures.value) ∙ c.in_ok-read.ensures c.as_slice-2.result.now ∙ sym c.in_ok-reads.ensures)
+    (with_fits plan c.args.msg.now c.args.planned.now.answer c.args.views.now.reads.items c.requires.taken c.requires.fits) in
+    subst (AreReadsOf plan) (sym c.in_ok-stays.ensures.stays) (some_hold (IsReadOf plan) (λ q. not (free q)) all fits)
+
+pub returns-clause-room : goal.returns-clause-room
+returns-clause-room c =
+    subst (λ (ran : List Ran). length (filter (λ a. a.writes) ran) ≤ c.reserve_counts.new.versions.spare) (c.ran.ensures ∙ sym c.in_ok-stays.ensures.sent.2) c.in_ok-reserve_counts.ensures.room

@@ -1,8 +1,0 @@
-use Rattle.std.proofs.Common.{take}
-use Rattle.roc_base.specs.TxnId.{is_txn}
-use Rattle.roc_sequence.specs.Places.{IsListed}
-use Rattle.roc_server_ancestors.specs.Least.{AreLeast}
-use Rattle.roc_server_ancestors.proofs.ancestors.least.Given as goal
-
-abbrev pub invariant-loop-id : goal.invariant-loop-id
-invariant-loop-id l = AreLeast (IsListed is_txn (take l.id-index l.met)) l.ids.items

@@ -1,2 +1,0 @@
--- What the contracts of private functions and the types alone cite: the keys of a set, in order
-pub mod Rising
