@@ -13,7 +13,7 @@ use Rattle.roc_merge.proofs.Flows.{core_there}
 use Rattle.roc_merge.proofs.Grouped.{grouped_merged}
 use Rattle.roc_plan.specs.Groups.{Plan}
 use Rattle.roc_plan.specs.Accepted.{grouped_plan}
-use Rattle.roc_report.specs.Line.{Line, Apart, Blocked}
+use Rattle.roc_report.specs.Checked.{CheckedLine, Apart, Blocked}
 use Rattle.roc_check.specs.Checked.{AreImmediate, IsPlanOf, IsRefusedBy, apart, blocked}
 use Rattle.roc_check.proofs.Searches.{test_of, test_tells}
 use Rattle.roc_check.proofs.Promoted.{set_of}
@@ -23,7 +23,7 @@ use Rattle.roc_check.proofs.Witnessed.{apart_cycle, blocked_cycle}
 
 module _ (program : Workload) (well : IsProgram program) where
   abbrev pub Chosen : Type 0
-  Chosen = ((plan : Plan) × IsPlanOf program plan) ⊎ ((line : Line) × IsRefusedBy program line)
+  Chosen = ((plan : Plan) × IsPlanOf program plan) ⊎ ((line : CheckedLine) × IsRefusedBy program line)
 
   module _ (is_immediate : PieceId → Bool) (are : AreImmediate program is_immediate) where
     -- whether a piece is in the core of its procedure
@@ -55,7 +55,7 @@ module _ (program : Workload) (well : IsProgram program) where
     plan_from acceptable =
         (grouped_plan program is_immediate all_groups, record { immediate = is_immediate; groups = all_groups; are_immediate = are; acceptable = acceptable; merged = merged; is = refl })
 
-    apart_line : FirstApart program well is_immediate are → (line : Line) × IsRefusedBy program line
+    apart_line : FirstApart program well is_immediate are → (line : CheckedLine) × IsRefusedBy program line
     apart_line f =
         let p : PieceId = f.0 in
         let q : PieceId = f.1.0 in
@@ -63,7 +63,7 @@ module _ (program : Workload) (well : IsProgram program) where
         let cycle = shortest_from program is_immediate p q there.0 there.1 in
         (Apart p q cycle.0, apart is_immediate p q cycle.0 are f.1.1 cycle.1)
 
-    blocked_line : FirstBlocked program well is_immediate are → (line : Line) × IsRefusedBy program line
+    blocked_line : FirstBlocked program well is_immediate are → (line : CheckedLine) × IsRefusedBy program line
     blocked_line f =
         let p : PieceId = f.0 in
         let q : PieceId = f.1.0 in

@@ -7,7 +7,7 @@ use Rattle.roc_lang_scope.specs.Fault.{first}
 use Rattle.roc_lang_scope.specs.declared.fault.ScopeFault.TheVariants as misuse
 use Rattle.roc_program.specs.Program.{Workload}
 use Rattle.roc_plan.specs.Groups.{Plan}
-use Rattle.roc_report.specs.Line as line
+use Rattle.roc_report.specs.Checked as line
 use Rattle.roc_check.specs.declared.fault.CheckFault.{CheckFault}
 use Rattle.roc_check.specs.declared.fault.CheckFault.TheVariants.{Lang, Scope, Apart, Blocked, NoMemory}
 use Rattle.roc_check.specs.Checked.{IsPlanOf, IsRefusedBy, IsTextOf, IsPlanOfText, IsRefusedText, IsCheckOf, IsPlanned}
@@ -26,7 +26,7 @@ checked bytes program (Err (Blocked workload p q x cycle)) text (e, is) =
     record { text = subst (IsTextOf bytes) (sym e) text; refused = subst (λ w. IsRefusedBy w (line.Blocked p q x cycle)) (sym e) is }
 checked bytes program (Err NoMemory) text is = tt
 
-refused_plan : (bytes : List ℕ) (plan : Plan) (program : Workload) (said : line.Line) → IsPlanOfText bytes plan → IsRefusedText bytes program said → ⊥
+refused_plan : (bytes : List ℕ) (plan : Plan) (program : Workload) (said : line.CheckedLine) → IsPlanOfText bytes plan → IsRefusedText bytes program said → ⊥
 refused_plan bytes plan program said of is =
     let e : program ≡ plan.program = one_program bytes program plan.program is.text of.text in
     plan_not_refused plan.program plan said of.has (subst (λ w. IsRefusedBy w said) e is.refused)

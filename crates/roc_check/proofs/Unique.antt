@@ -14,7 +14,7 @@ use Rattle.roc_merge_groups.specs.Refusals.{IsApart, IsBlocked}
 use Rattle.roc_merge.proofs.Firsts.{one_pair, one_three, apart_unacceptable, blocked_unacceptable}
 use Rattle.roc_plan.specs.Groups.{Plan}
 use Rattle.roc_plan.specs.Accepted.{grouped_plan}
-use Rattle.roc_report.specs.Line.{Line, Apart, Blocked}
+use Rattle.roc_report.specs.Checked.{CheckedLine, Apart, Blocked}
 use Rattle.roc_check.specs.Checked.{AreImmediate, IsPlanOf, IsRefusedBy, apart, blocked, IsTextOf, IsPlanOfText}
 
 -- tests that hold alike are the same
@@ -37,7 +37,7 @@ module _ (program : Workload) where
       let g : a.groups ≡ b.groups = single b.immediate a.groups b.groups m b.merged in
       a.is ∙ (ap (λ i. grouped_plan program i a.groups) e ∙ (ap (grouped_plan program b.immediate) g ∙ sym b.is))
 
-  pub plan_not_refused : (plan : Plan) (line : Line) → IsPlanOf program plan → IsRefusedBy program line → ⊥
+  pub plan_not_refused : (plan : Plan) (line : CheckedLine) → IsPlanOf program plan → IsRefusedBy program line → ⊥
   plan_not_refused plan _ a (apart immediate p q cycle are is short) =
       let e : a.immediate ≡ immediate = one_set a.immediate immediate a.are_immediate are in
       apart_unacceptable program immediate p q is.is (subst (IsAcceptable program) e a.acceptable)
@@ -65,7 +65,7 @@ module _ (program : Workload) where
       let h : c ≡ d = one_cycle program i a b c d moved t in
       cc
 
-  pub one_refusal : (one other : Line) → IsRefusedBy program one → IsRefusedBy program other → one ≡ other
+  pub one_refusal : (one other : CheckedLine) → IsRefusedBy program one → IsRefusedBy program other → one ≡ other
   one_refusal _ _ (apart i p q c are is short) (apart j a b d also other shorter) =
       let e : i ≡ j = one_set i j are also in
       same_apart j p q a b c d (subst (λ k. IsApart program k p q) e is) other (subst (λ k. IsShortestOf program k p q c) e short) shorter

@@ -19,8 +19,8 @@ use Rattle.roc_merge_groups.specs.Grouping.{IsMerged}
 use Rattle.roc_merge_groups.specs.Refusals.{IsApart, IsBlocked}
 use Rattle.roc_plan.specs.Groups.{Plan}
 use Rattle.roc_plan.specs.Accepted.{grouped_plan}
-use Rattle.roc_report.specs.Line.{Line}
-use Rattle.roc_report.specs.Line as line
+use Rattle.roc_report.specs.Checked.{CheckedLine}
+use Rattle.roc_report.specs.Checked as line
 use Rattle.roc_check.specs.declared.fault.CheckFault.{CheckFault}
 use Rattle.roc_check.specs.declared.fault.CheckFault.TheVariants.{Lang, Scope, Apart, Blocked, NoMemory}
 
@@ -41,7 +41,7 @@ pub record IsPlanOf (program : Workload) (plan : Plan) : Type 0 where
 
 -- the line that refuses a program that is not acceptable: the first two pieces that are apart, or that one is between, and the cycle of
 -- these two
-pub data IsRefusedBy (program : Workload) : Line → Type 0 where
+pub data IsRefusedBy (program : Workload) : CheckedLine → Type 0 where
   apart : (immediate : PieceId → Bool) (p q : PieceId) (cycle : List Vertex) → AreImmediate program immediate
       → IsApart program immediate p q → IsShortestOf program immediate p q cycle → IsRefusedBy program (line.Apart p q cycle)
   blocked : (immediate : PieceId → Bool) (p q x : PieceId) (cycle : List Vertex) → AreImmediate program immediate
@@ -62,7 +62,7 @@ pub record IsPlanOfText (bytes : List ℕ) (plan : Plan) : Type 0 where
   pub has : IsPlanOf plan.program plan
 
 -- the bytes are a workload text in scope, of this program, which this line refuses
-pub record IsRefusedText (bytes : List ℕ) (program : Workload) (said : Line) : Type 0 where
+pub record IsRefusedText (bytes : List ℕ) (program : Workload) (said : CheckedLine) : Type 0 where
   pub text : IsTextOf bytes program
   pub refused : IsRefusedBy program said
 

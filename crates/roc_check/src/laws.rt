@@ -4,7 +4,7 @@ ghost use Rattle.roc_program.specs.Program.{Workload};
 ghost use Rattle.roc_program.specs.WellFormed.{IsProgram};
 ghost use Rattle.roc_plan.specs.Groups.{Plan};
 ghost use Rattle.roc_plan.specs.Accepted.{IsAccepted};
-ghost use Rattle.roc_report.specs.Line.{Line};
+ghost use Rattle.roc_report.specs.Checked.{CheckedLine};
 ghost use Rattle.roc_report.specs.ReportLine.{HasNames};
 ghost use Rattle.roc_check.specs.Lines.{check_lines};
 ghost use Rattle.roc_check.specs.Checked.{IsPlanOf, IsPlanOfText, IsRefusedBy, IsTextOf};
@@ -22,9 +22,9 @@ pub fn plans_are_unique()
 
 /// A program is refused by at most one line, and by none where it has a plan. A well-formed program has a plan, or a line refuses it.
 pub fn refusals_are_unique()
-    ensures line { (program : Workload) (one other : Line) → IsRefusedBy program one → IsRefusedBy program other → one ≡ other }
-    ensures no_plan { (program : Workload) (plan : Plan) (line : Line) → IsPlanOf program plan → IsRefusedBy program line → ⊥ }
-    ensures one_of { (program : Workload) → IsProgram program → ((plan : Plan) × IsPlanOf program plan) ⊎ ((line : Line) × IsRefusedBy program line) }
+    ensures line { (program : Workload) (one other : CheckedLine) → IsRefusedBy program one → IsRefusedBy program other → one ≡ other }
+    ensures no_plan { (program : Workload) (plan : Plan) (line : CheckedLine) → IsPlanOf program plan → IsRefusedBy program line → ⊥ }
+    ensures one_of { (program : Workload) → IsProgram program → ((plan : Plan) × IsPlanOf program plan) ⊎ ((line : CheckedLine) × IsRefusedBy program line) }
 {}
 
 /// The plan of a text is accepted, so that the laws of accepted plans hold of it.

@@ -8,8 +8,8 @@ ghost use Rattle.roc_plan.specs.Groups.{groups_of, group_of};
 ghost use Rattle.roc_plan.specs.Accepted.{is_piece_immediate};
 ghost use Rattle.roc_check.specs.Inner.PieceSets.{holds};
 ghost use Rattle.roc_check.specs.Lines.{procedures_of, standing_of, piece_lines, group_line, group_lines, procedure_lines, conflict_lines, check_lines};
-ghost use Rattle.roc_report.specs.Line.{Conflict};
-ghost use Rattle.roc_report.specs.Text.{lines_text};
+ghost use Rattle.roc_report.specs.Checked.{Conflict};
+ghost use Rattle.roc_report.specs.Checked.{checked_lines_text};
 
 use crate::piece_sets::holds;
 use crate::users::{conflicting, users};
@@ -21,7 +21,7 @@ use std::alloc::Global;
 
 /// The text of `check` of a plan.
 pub fn check_text(alloc: Global, plan: &Plan) -> Result<Vec<u8>, NoMemory>
-    ensures { IfOk result (λ text. text.items ≡ lines_text plan.now.program (check_lines plan.now)) }
+    ensures { IfOk result (λ text. text.items ≡ checked_lines_text plan.now.program (check_lines plan.now)) }
 {
     let workload = plan.workload();
     let mut text = Vec::new(alloc);
@@ -36,7 +36,7 @@ pub fn check_text(alloc: Global, plan: &Plan) -> Result<Vec<u8>, NoMemory>
 
 // Adds each procedure with its pieces and groups.
 fn push_procedures(alloc: Global, text: &mut Vec<u8>, plan: &Plan) -> Result<(), NoMemory>
-    ensures { OnOk result (text.new.items ≡ text.old.items ++ lines_text plan.now.program (flat_map (procedure_lines plan.now) (procedures_of plan.now.program))) }
+    ensures { OnOk result (text.new.items ≡ text.old.items ++ checked_lines_text plan.now.program (flat_map (procedure_lines plan.now) (procedures_of plan.now.program))) }
 {
     for proc in 0..plan.procedures() {
         push_procedure(alloc, text, plan, proc)?;
@@ -47,7 +47,7 @@ fn push_procedures(alloc: Global, text: &mut Vec<u8>, plan: &Plan) -> Result<(),
 // Adds a procedure with its pieces and groups.
 fn push_procedure(alloc: Global, text: &mut Vec<u8>, plan: &Plan, proc: u16) -> Result<(), NoMemory>
     requires { proc < length plan.now.program.procedures }
-    ensures { OnOk result (text.new.items ≡ text.old.items ++ lines_text plan.now.program (procedure_lines plan.now proc)) }
+    ensures { OnOk result (text.new.items ≡ text.old.items ++ checked_lines_text plan.now.program (procedure_lines plan.now proc)) }
 {
     append_check(alloc, text, plan.workload(), &CheckLine::Proc(proc))?;
     push_pieces(alloc, text, plan, proc)?;
@@ -57,7 +57,7 @@ fn push_procedure(alloc: Global, text: &mut Vec<u8>, plan: &Plan, proc: u16) -> 
 // Adds the pieces of a procedure.
 fn push_pieces(alloc: Global, text: &mut Vec<u8>, plan: &Plan, proc: u16) -> Result<(), NoMemory>
     requires { proc < length plan.now.program.procedures }
-    ensures { OnOk result (text.new.items ≡ text.old.items ++ lines_text plan.now.program (piece_lines plan.now proc)) }
+    ensures { OnOk result (text.new.items ≡ text.old.items ++ checked_lines_text plan.now.program (piece_lines plan.now proc)) }
 {
     let workload = plan.workload();
     for piece in 0..piece_count(workload, proc) {
@@ -109,7 +109,7 @@ fn is_immediate(plan: &Plan, proc: u16, group: u16) -> bool
 // Adds the groups of a procedure, unless it is a view.
 fn push_groups(alloc: Global, text: &mut Vec<u8>, plan: &Plan, proc: u16) -> Result<(), NoMemory>
     requires { proc < length plan.now.program.procedures }
-    ensures { OnOk result (text.new.items ≡ text.old.items ++ lines_text plan.now.program (group_lines plan.now proc)) }
+    ensures { OnOk result (text.new.items ≡ text.old.items ++ checked_lines_text plan.now.program (group_lines plan.now proc)) }
 {
     if plan.is_view(proc) {
         return Ok(());
@@ -125,7 +125,7 @@ fn push_each_group(
     proc: u16,
 ) -> Result<(), NoMemory>
     requires { proc < length plan.now.program.procedures }
-    ensures { OnOk result (text.new.items ≡ text.old.items ++ lines_text plan.now.program (map (group_line plan.now proc) (range_with_len 0 (length (groups_of plan.now proc))))) }
+    ensures { OnOk result (text.new.items ≡ text.old.items ++ checked_lines_text plan.now.program (map (group_line plan.now proc) (range_with_len 0 (length (groups_of plan.now proc))))) }
 {
     for number in 0..plan.groups(proc) {
         let immediate = is_immediate(plan, proc, number);
@@ -148,7 +148,7 @@ fn push_conflicts(
     workload: &Workload,
     pieces: &[PieceId],
 ) -> Result<(), NoMemory>
-    ensures { OnOk result (text.new.items ≡ text.old.items ++ lines_text workload.now (conflict_lines workload.now pieces.now)) }
+    ensures { OnOk result (text.new.items ≡ text.old.items ++ checked_lines_text workload.now (conflict_lines workload.now pieces.now)) }
 {
     let touched = users(alloc, workload, false)?;
     let written = users(alloc, workload, true)?;
@@ -169,7 +169,7 @@ fn push_conflicts_of(
     others: &[PieceId],
 ) -> Result<(), NoMemory>
     requires { (id : Id) → holds found.now id ≡ are_in_conflict workload.now first id }
-    ensures { OnOk result (text.new.items ≡ text.old.items ++ lines_text workload.now (map (Conflict first) (filter (are_in_conflict workload.now first) others.now))) }
+    ensures { OnOk result (text.new.items ≡ text.old.items ++ checked_lines_text workload.now (map (Conflict first) (filter (are_in_conflict workload.now first) others.now))) }
 {
     for other in others {
         if holds(found, *other) {

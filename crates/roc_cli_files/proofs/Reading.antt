@@ -12,7 +12,7 @@ use Rattle.roc_lang.specs.Scope.{faults}
 use Rattle.roc_lang.specs.Syntax.{Tree}
 use Rattle.roc_program.specs.Program.{Workload}
 use Rattle.roc_plan.specs.Groups.{Plan}
-use Rattle.roc_report.specs.Line.{Line}
+use Rattle.roc_report.specs.Checked.{CheckedLine}
 use Rattle.roc_check.specs.Checked.{IsRefusedText, IsFirstError, IsFirstMisuse}
 use Rattle.roc_cli_files.specs.declared.fault.Fault.{Fault}
 use Rattle.roc_cli_files.specs.declared.fault.Fault.TheVariants.{TooLong, At, Scope, Rejected, Memory, File, Sink}
@@ -47,7 +47,7 @@ misuse_counted name (misuse.At number what) _ count told = absurd told
 misuse_counted name misuse.NoMemory fault count told = subst (λ f. HasCause (blames_sink f) count count) (sym told) refl
 
 -- the line of a program that is not acceptable
-pub rejection_fails : (bytes name : List ℕ) (program : Workload) (said : Line) (old new : Option (List ℕ)) (fault : Fault) → IsRefusedText bytes program said → RejectionEnds program said old new fault → TextFails bytes name old new fault
+pub rejection_fails : (bytes name : List ℕ) (program : Workload) (said : CheckedLine) (old new : Option (List ℕ)) (fault : Fault) → IsRefusedText bytes program said → RejectionEnds program said old new fault → TextFails bytes name old new fault
 rejection_fails bytes name program said old new Rejected is adds = (program, said, is, adds)
 rejection_fails bytes name program said old new Sink is front = (program, said, is, front)
 rejection_fails bytes name program said old new Memory is same = same

@@ -9,7 +9,7 @@ use Rattle.roc_lang_scope.specs.Fault.{first}
 use Rattle.roc_lang_parse.specs.Fault.{IsWorkloadText, IsFirstFault}
 use Rattle.roc_program.specs.Program.{Workload}
 use Rattle.roc_plan.specs.Groups.{Plan}
-use Rattle.roc_report.specs.Line.{Line}
+use Rattle.roc_report.specs.Checked.{CheckedLine}
 use Rattle.roc_check.specs.Checked.{IsPlanOfText, IsRefusedText}
 use Rattle.roc_io.specs.declared.link.Addr.{Addr}
 use Rattle.roc_cluster.specs.declared.fault.ClusterFault.{ClusterFault}
@@ -58,7 +58,7 @@ pub record HoldsPlan (content : List ℕ → Option (List ℕ)) (name : List ℕ
   pub is : IsPlanOfText bytes plan
 
 -- the name holds a workload text in scope, of this program, which is not acceptable: this line says why
-pub record HoldsRejected (content : List ℕ → Option (List ℕ)) (name : List ℕ) (program : Workload) (said : Line) : Type 0 where
+pub record HoldsRejected (content : List ℕ → Option (List ℕ)) (name : List ℕ) (program : Workload) (said : CheckedLine) : Type 0 where
   pub bytes : List ℕ
   pub held : Holds content name bytes
   pub is : IsRefusedText bytes program said

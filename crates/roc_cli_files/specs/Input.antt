@@ -9,8 +9,8 @@ use Rattle.roc_lang_print.specs.Canonical.{canonical}
 use Rattle.roc_lang_scope.specs.Fault.{kind}
 use Rattle.roc_program.specs.Program.{Workload}
 use Rattle.roc_plan.specs.Groups.{Plan}
-use Rattle.roc_report.specs.Line.{Line}
-use Rattle.roc_report.specs.Text.{line_text, lines_text}
+use Rattle.roc_report.specs.Checked.{CheckedLine}
+use Rattle.roc_report.specs.Checked.{checked_text, checked_lines_text}
 use Rattle.roc_check.specs.Lines.{check_lines}
 use Rattle.roc_cli_files.specs.declared.fault.Fault.{Fault}
 use Rattle.roc_cli_files.specs.declared.fault.Fault.TheVariants.{TooLong, At, Scope, Rejected, Memory, File, Sink}
@@ -40,8 +40,8 @@ IsProgramFault content name fault = IsReadFault content name text_limit fault
 
 -- why there is no plan, where standard output took what is said of a workload that is not acceptable
 abbrev pub PlanFails : (List ℕ → Option (List ℕ)) → (name : List ℕ) → (old new : Option (List ℕ)) → Fault → Type 0
-PlanFails content name old new Rejected = (program : Workload) × (said : Line) × HoldsRejected content name program said × Adds old new (line_text program said)
-PlanFails content name old new Sink = (program : Workload) × (said : Line) × HoldsRejected content name program said × AddsFront old new (line_text program said)
+PlanFails content name old new Rejected = (program : Workload) × (said : CheckedLine) × HoldsRejected content name program said × Adds old new (checked_text program said)
+PlanFails content name old new Sink = (program : Workload) × (said : CheckedLine) × HoldsRejected content name program said × AddsFront old new (checked_text program said)
 PlanFails content name old new fault = IsProgramFault content name fault × (new ≡ old)
 
 -- the plan, or why there is none
@@ -53,7 +53,7 @@ PlanEnds content name old new (Err fault) = PlanFails content name old new fault
 
 -- the text of `check`
 abbrev pub check_text : Plan → List ℕ
-check_text plan = lines_text plan.program (check_lines plan)
+check_text plan = checked_lines_text plan.program (check_lines plan)
 
 -- how the print of a workload ends
 abbrev pub PrintEnds : (List ℕ → Option (List ℕ)) → (name : List ℕ) → (old new : Option (List ℕ)) → Result Unit Fault → Type 0

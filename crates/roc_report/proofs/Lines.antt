@@ -48,7 +48,6 @@ form (Order ids) = 311
 form (Row cell value) = 314
 form (Pending id) = 312
 form (End answered pending messages) = 301
-form _ = 0
 
 -- ---- parts of lines
 
@@ -142,7 +141,6 @@ module _ (program : Workload) (names : HasNames program) where
   formed (Row cell value) r is = refl
   formed (Pending id) r is = refl
   formed (End answered pending messages) r is = refl
-  formed _ r is = absurd is.small
 
   -- what is left of a line's text behind so many bytes, where both lines have them
   abbrev Same : Line → Line → List ℕ → List ℕ → Type 0
@@ -237,7 +235,6 @@ module _ (program : Workload) (names : HasNames program) where
       let messages = numbers_apart m m2 _ _ is.small.2 also.small.2 refl refl (ap (drop 9) pending.1) in
       ((λ i. End (answered.0 i) (pending.0 i) (messages.0 i)), ap (drop 10) messages.1)
   one_line (End a p m) b r s is also f e = absurd (unlike 301 (form b) refl f)
-  one_line _ b r s is also f e = absurd is.small
 
   -- ---- lists of lines
 

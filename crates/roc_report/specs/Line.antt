@@ -1,14 +1,11 @@
--- The lines of reports, as plain data: docs/FORMATS.md, "Report" and "Text of check"
+-- The lines of reports, as plain data: docs/FORMATS.md, "Report"
 use Rattle.std.specs.Prelude.{ℕ, ℤ, Bool, true, false, List, Option, None, if◌then◌else◌}
 use Rattle.roc_base.specs.declared.id.TxnId.{TxnId}
 use Rattle.roc_base.specs.declared.node.Node.{Node}
 use Rattle.roc_base.specs.declared.node.Shard.{Shard}
 use Rattle.roc_base.specs.Edge.{Dependency}
 use Rattle.roc_msg.specs.declared.reason.Reason.{Reason}
-use Rattle.roc_program.specs.declared.piece_id.PieceId.{PieceId}
 use Rattle.roc_rows.specs.declared.cell.Cell.{Cell}
-use Rattle.roc_scgraph.specs.declared.vertex.Vertex.{Vertex}
-use Rattle.roc_report.specs.declared.line.Standing.{Standing}
 
 -- the kinds of messages
 pub data MessageKind : Type 0 where
@@ -55,11 +52,3 @@ pub data Line : Type 0 where
   Row : (cell : Cell) (value : ℤ) → Line
   Pending : (id : TxnId) → Line
   End : (answered pending messages : ℕ) → Line
-  Shards : (count : ℕ) → Line
-  Proc : (proc : ℕ) → Line
-  Piece : (id : PieceId) (standing : Standing) → Line
-  Group : (proc number : ℕ) (is_immediate : Bool) (pieces : List ℕ) → Line
-  Conflict : (first second : PieceId) → Line
-  Accepted : Line
-  Apart : (p q : PieceId) (cycle : List Vertex) → Line
-  Blocked : (p q x : PieceId) (cycle : List Vertex) → Line

@@ -59,7 +59,7 @@ pub record IsSmallCell (cell : Cell) : Type 0 where
   pub place : FitsSigned w64 cell.place
   pub id : AreSmallIntegers cell.id
 
--- the numbers of a line of a report have at most 64 bits. No line of the text of `check` is one
+-- the numbers of a line of a report have at most 64 bits
 abbrev pub HasSmallNumbers : Line → Type 0
 HasSmallNumbers (Submit id proc args) = IsSmallId id × AreSmallIntegers args
 HasSmallNumbers (Busy coord) = IsSmall coord
@@ -80,7 +80,6 @@ HasSmallNumbers (Order ids) = AllByRecursion IsSmallId ids
 HasSmallNumbers (Row cell value) = IsSmallCell cell × FitsSigned w64 value
 HasSmallNumbers (Pending id) = IsSmallId id
 HasSmallNumbers (End answered pending messages) = IsSmall answered × IsSmall pending × IsSmall messages
-HasSmallNumbers _ = ⊥
 
 abbrev pub HaveSmallNumbers : List Line → Type 0
 HaveSmallNumbers lines = AllByRecursion HasSmallNumbers lines

@@ -10,6 +10,7 @@ use Rattle.roc_report.specs.declared.line.ReportLine.{ReportLine}
 use Rattle.roc_report.specs.declared.line.ReportLine.TheVariants.{Submit, Busy, Spent, Deliver, Nothing, Tick, Stopped, Drain, Draining, NoProc, Skipped, Gone, Ignored, Send, Answer, Order, Row, Pending, End}
 use Rattle.roc_report.specs.declared.line.CheckLine.{CheckLine}
 use Rattle.roc_report.specs.declared.line.CheckLine.TheVariants.{Shards, Proc, Piece, Group, Conflict, Accepted, Apart, Blocked}
+use Rattle.roc_report.specs.Checked as checked
 use Rattle.roc_report.specs.Line as pure
 
 -- ---- messages
@@ -75,12 +76,12 @@ shown (Row cell value) = pure.Row cell.now value
 shown (Pending id) = pure.Pending id
 shown (End answered pending messages) = pure.End answered pending messages
 
-abbrev pub shown_check : CheckLine → pure.Line
-shown_check (Shards count) = pure.Shards count
-shown_check (Proc proc) = pure.Proc proc
-shown_check (Piece id standing) = pure.Piece id standing
-shown_check (Group proc number is_immediate pieces) = pure.Group proc number is_immediate pieces.now
-shown_check (Conflict first second) = pure.Conflict first second
-shown_check Accepted = pure.Accepted
-shown_check (Apart p q cycle) = pure.Apart p q cycle.now
-shown_check (Blocked p q x cycle) = pure.Blocked p q x cycle.now
+abbrev pub shown_check : CheckLine → checked.CheckedLine
+shown_check (Shards count) = checked.Shards count
+shown_check (Proc proc) = checked.Proc proc
+shown_check (Piece id standing) = checked.Piece id standing
+shown_check (Group proc number is_immediate pieces) = checked.Group proc number is_immediate pieces.now
+shown_check (Conflict first second) = checked.Conflict first second
+shown_check Accepted = checked.Accepted
+shown_check (Apart p q cycle) = checked.Apart p q cycle.now
+shown_check (Blocked p q x cycle) = checked.Blocked p q x cycle.now

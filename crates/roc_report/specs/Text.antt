@@ -1,4 +1,4 @@
--- The text of each line: docs/FORMATS.md, "Report" and "Text of check"
+-- The text of each line of a report: docs/FORMATS.md, "Report"
 use Rattle.std.specs.Prelude.{ℕ, ℤ, Bool, List, [], ◌∷◌, ◌++◌, Option, Some, None, codes, if◌then◌else◌}
 use Rattle.std.specs.List.{flat_map}
 use Rattle.std.specs.Option.{option_to_list}
@@ -10,18 +10,11 @@ use Rattle.roc_base.specs.Node.{node_text}
 use Rattle.roc_base.specs.Edge.{Dependency}
 use Rattle.roc_msg.specs.Reason.{reason_text}
 use Rattle.roc_program.specs.Program.{Workload}
-use Rattle.roc_program.specs.LookUps.{procedure_name, is_view_in, table_name, column_name}
-use Rattle.roc_program.specs.Pieces.{piece_of}
-use Rattle.roc_program.specs.declared.piece_id.PieceId.{PieceId}
+use Rattle.roc_program.specs.LookUps.{procedure_name, table_name, column_name}
 use Rattle.roc_rows.specs.declared.cell.Cell.{Cell}
-use Rattle.roc_scgraph.specs.declared.vertex.Vertex.{Vertex}
-use Rattle.roc_scgraph.specs.declared.vertex.Instance.{Instance}
-use Rattle.roc_scgraph.specs.declared.vertex.Instance.TheVariants.{First, Second}
-use Rattle.roc_scgraph.specs.Graph.{piece_id}
 use Rattle.roc_report.specs.Line.{MessageKind, Start, StartOk, Commit, CommitOk, Fetch, Known, Stop, Ended, Settled, Read, ReadOk, Drained, Switched, ShownMessage, Line}
 use Rattle.roc_report.specs.Line.{Submit, Busy, Spent, Deliver, Nothing, Tick, Stopped, Drain, Draining, NoProc, Skipped, Gone, Ignored, Send, Answer}
-use Rattle.roc_report.specs.Line.{Order, Row, Pending, End, Shards, Proc, Piece, Group, Conflict, Accepted, Apart, Blocked}
-use Rattle.roc_report.specs.Standing.{standing_text}
+use Rattle.roc_report.specs.Line.{Order, Row, Pending, End}
 
 -- a space, and a word behind it
 abbrev pub spaced : List ℕ → List ℕ
@@ -75,34 +68,6 @@ key_text id = flat_map (λ n. codes "," ++ signed_decimal n) id
 abbrev pub cell_text : Workload → Cell → List ℕ
 cell_text program c = table_name program c.table ++ codes "[" ++ signed_decimal c.place ++ key_text c.id ++ codes "]." ++ column_name program c.table c.column
 
--- PROCEDURE.PIECE
-abbrev pub piece_text : Workload → PieceId → List ℕ
-piece_text program id = procedure_name program id.proc ++ codes "." ++ (piece_of program id).name
-
--- what stands behind the name of a view
-abbrev pub view_text : Workload → (proc : ℕ) → List ℕ
-view_text program proc = if is_view_in program proc then codes " view" else codes ""
-
--- the class of a group
-abbrev pub class_text : Bool → List ℕ
-class_text is_immediate = if is_immediate then codes "immediate" else codes "deferrable"
-
--- the names of pieces of a procedure, a space before each
-abbrev pub names_text : Workload → (proc : ℕ) → List ℕ → List ℕ
-names_text program proc pieces = flat_map (λ k. spaced (piece_of program (record { proc = proc; piece = k })).name) pieces
-
-abbrev pub instance_text : Instance → List ℕ
-instance_text First = codes "1"
-instance_text Second = codes "2"
-
--- PROCEDURE.PIECE#INSTANCE
-abbrev pub vertex_text : Workload → Vertex → List ℕ
-vertex_text program v = piece_text program (piece_id v) ++ codes "#" ++ instance_text v.instance
-
--- the vertices of a cycle, behind a colon and with a space before each
-abbrev pub cycle_text : Workload → List Vertex → List ℕ
-cycle_text program cycle = codes ":" ++ flat_map (λ v. spaced (vertex_text program v)) cycle
-
 -- the message at which a server stopped, if any, and how many of those that come of it were sent, where its record was kept
 abbrev pub during_text : Option (ℕ × Option ℕ) → List ℕ
 during_text None = []
@@ -131,15 +96,6 @@ words_of program (Row cell value) = codes "row " ++ cell_text program cell ++ sp
 words_of program (Pending id) = codes "pending " ++ txn_text id
 words_of program (End answered pending messages) =
     codes "end " ++ decimal answered ++ codes " answered " ++ decimal pending ++ codes " pending " ++ decimal messages ++ codes " messages"
-words_of program (Shards count) = codes "shards " ++ decimal count
-words_of program (Proc proc) = codes "proc " ++ procedure_name program proc ++ view_text program proc
-words_of program (Piece id standing) = codes "piece " ++ (piece_of program id).name ++ spaced (standing_text standing)
-words_of program (Group proc number is_immediate pieces) = codes "group " ++ decimal number ++ spaced (class_text is_immediate) ++ names_text program proc pieces
-words_of program (Conflict first second) = codes "conflict " ++ piece_text program first ++ spaced (piece_text program second)
-words_of program Accepted = codes "accepted"
-words_of program (Apart p q cycle) = codes "refused apart " ++ piece_text program p ++ spaced (piece_text program q) ++ cycle_text program cycle
-words_of program (Blocked p q x cycle) =
-    codes "refused blocked " ++ piece_text program p ++ spaced (piece_text program q) ++ codes " by " ++ piece_text program x ++ cycle_text program cycle
 
 -- a line, which ends with a line feed
 abbrev pub line_text : Workload → Line → List ℕ

@@ -2,9 +2,10 @@
 ghost use Rattle.std.specs.Prelude.{◌≡◌, ◌++◌, OnOk, OnErr, codes};
 ghost use Rattle.std.specs.String.{string_bytes};
 ghost use Rattle.roc_program.specs.Pieces.{piece_of};
-ghost use Rattle.roc_report.specs.Line as line;
+ghost use Rattle.roc_report.specs.Checked as line;
+ghost use Rattle.roc_report.specs.Checked.{view_text, class_text, names_text, instance_text, piece_text, vertex_text, cycle_text, checked_words, checked_text};
 ghost use Rattle.roc_report.specs.Shown.{shown_check};
-ghost use Rattle.roc_report.specs.Text.{view_text, class_text, names_text, instance_text, piece_text, spaced, vertex_text, cycle_text, words_of, line_text};
+ghost use Rattle.roc_report.specs.Text.{spaced};
 
 use crate::CheckLine;
 use crate::text::procedure_name;
@@ -21,7 +22,7 @@ pub fn append_check(
     workload: &Workload,
     line: &CheckLine,
 ) -> Result<(), NoMemory>
-    ensures ok { OnOk result (into.new.items ≡ into.old.items ++ line_text workload.now (shown_check line.now)) }
+    ensures ok { OnOk result (into.new.items ≡ into.old.items ++ checked_text workload.now (shown_check line.now)) }
     ensures err { OnErr result (into.new.items ≡ into.old.items) }
 {
     let mut text = String::new(alloc);
@@ -33,7 +34,7 @@ pub fn append_check(
 
 // Adds a line without its end.
 fn push_words(text: &mut String, workload: &Workload, line: &CheckLine) -> Result<(), AllocError>
-    ensures { OnOk result (string_bytes text.new ≡ string_bytes text.old ++ words_of workload.now (shown_check line.now)) }
+    ensures { OnOk result (string_bytes text.new ≡ string_bytes text.old ++ checked_words workload.now (shown_check line.now)) }
 {
     match line {
         CheckLine::Shards(count) => write!(text, "shards {count}"),
@@ -56,7 +57,7 @@ fn push_words(text: &mut String, workload: &Workload, line: &CheckLine) -> Resul
 
 // Adds a procedure: its name, and whether it is a view.
 fn push_procedure(text: &mut String, workload: &Workload, proc: u16) -> Result<(), AllocError>
-    ensures { OnOk result (string_bytes text.new ≡ string_bytes text.old ++ words_of workload.now (line.Proc proc)) }
+    ensures { OnOk result (string_bytes text.new ≡ string_bytes text.old ++ checked_words workload.now (line.Proc proc)) }
 {
     write!(
         text,
@@ -82,7 +83,7 @@ fn push_group(
     immediate: bool,
     pieces: &[u16],
 ) -> Result<(), AllocError>
-    ensures { OnOk result (string_bytes text.new ≡ string_bytes text.old ++ words_of workload.now (line.Group proc number immediate pieces.now)) }
+    ensures { OnOk result (string_bytes text.new ≡ string_bytes text.old ++ checked_words workload.now (line.Group proc number immediate pieces.now)) }
 {
     write!(text, "group {number} {}", class(immediate))?;
     push_names(text, workload, proc, pieces)
@@ -123,7 +124,7 @@ fn push_conflict(
     first: PieceId,
     second: PieceId,
 ) -> Result<(), AllocError>
-    ensures { OnOk result (string_bytes text.new ≡ string_bytes text.old ++ words_of workload.now (line.Conflict first second)) }
+    ensures { OnOk result (string_bytes text.new ≡ string_bytes text.old ++ checked_words workload.now (line.Conflict first second)) }
 {
     text.push_str("conflict ")?;
     push_two(text, workload, first, second)
@@ -151,7 +152,7 @@ fn push_apart(
     q: PieceId,
     cycle: &[Vertex],
 ) -> Result<(), AllocError>
-    ensures { OnOk result (string_bytes text.new ≡ string_bytes text.old ++ words_of workload.now (line.Apart p q cycle.now)) }
+    ensures { OnOk result (string_bytes text.new ≡ string_bytes text.old ++ checked_words workload.now (line.Apart p q cycle.now)) }
 {
     text.push_str("refused apart ")?;
     push_two(text, workload, p, q)?;
@@ -167,7 +168,7 @@ fn push_blocked(
     x: PieceId,
     cycle: &[Vertex],
 ) -> Result<(), AllocError>
-    ensures { OnOk result (string_bytes text.new ≡ string_bytes text.old ++ words_of workload.now (line.Blocked p q x cycle.now)) }
+    ensures { OnOk result (string_bytes text.new ≡ string_bytes text.old ++ checked_words workload.now (line.Blocked p q x cycle.now)) }
 {
     text.push_str("refused blocked ")?;
     push_two(text, workload, p, q)?;

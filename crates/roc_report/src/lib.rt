@@ -14,6 +14,7 @@ mod check;
 pub mod laws;
 mod line;
 mod small;
+mod spelling;
 mod text;
 
 pub use check::append_check;

@@ -1,16 +1,19 @@
 //! The text of a line.
 ghost use Rattle.std.specs.Prelude.{◌≡◌, ◌∷◌, ◌++◌, map, OnOk, OnErr, codes};
 ghost use Rattle.std.specs.Fmt.{decimal};
+ghost use Rattle.std.specs.Option.{option_to_list};
 ghost use Rattle.std.specs.String.{string_bytes};
+ghost use Rattle.roc_base.specs.Node.{node_text};
 ghost use Rattle.roc_program.specs.LookUps.{procedure_name, table_name, column_name};
 ghost use Rattle.roc_report.specs.Line.{Row};
 ghost use Rattle.roc_report.specs.ReportLine.{HasSmallNumbers};
 ghost use Rattle.roc_report.specs.Shown.{message_kind, named_by, edges_of, facts_of, shown_message, shown};
-ghost use Rattle.roc_report.specs.Text.{numbers_text, ids_text, tags_text, edges_text, facts_text, message_kind_text, spaced, during_text, message_text, key_text, cell_text, words_of, line_text};
+ghost use Rattle.roc_report.specs.Text.{numbers_text, ids_text, edges_text, facts_text, message_kind_text, spaced, during_text, message_text, key_text, cell_text, words_of, line_text};
 
 use crate::ReportLine;
 use crate::small::has_small_numbers;
-use roc_base::{Edge, NoMemory, Node, Shard, TxnId};
+use crate::spelling::{push_edge, push_id, push_number};
+use roc_base::{Edge, NoMemory, Node, TxnId};
 use roc_depgraph::KnownList;
 use roc_msg::{Envelope, Msg};
 use roc_program::Workload;
@@ -49,7 +52,7 @@ fn push_words(text: &mut String, workload: &Workload, line: &ReportLine) -> Resu
         }
         ReportLine::Busy(coord) => write!(text, "busy {coord}"),
         ReportLine::Spent(coord) => write!(text, "spent {coord}"),
-        ReportLine::Deliver(number) => write!(text, "deliver {number}"),
+        ReportLine::Deliver(number) => push_counted(text, "deliver ", *number),
         ReportLine::Nothing => text.push_str("none"),
         ReportLine::Tick(node) => write!(text, "tick {node}"),
         ReportLine::Stopped(shard, during) => {
@@ -88,6 +91,14 @@ fn push_words(text: &mut String, workload: &Workload, line: &ReportLine) -> Resu
     }
 }
 
+// Adds a word and a number.
+fn push_counted(text: &mut String, word: &str, number: u64) -> Result<(), AllocError>
+    ensures { OnOk result (string_bytes text.new ≡ string_bytes text.old ++ word.now ++ decimal number) }
+{
+    text.push_str(word)?;
+    push_number(text, number)
+}
+
 // Adds the message at which a server stopped, if any, and how many of those that come of it were sent.
 fn push_during(text: &mut String, during: Option<(u64, Option<u32>)>) -> Result<(), AllocError>
     ensures { OnOk result (string_bytes text.new ≡ string_bytes text.old ++ during_text during) }
@@ -114,7 +125,8 @@ fn push_ids(text: &mut String, ids: &[TxnId]) -> Result<(), AllocError>
     ensures { OnOk result (string_bytes text.new ≡ string_bytes text.old ++ ids_text ids.now) }
 {
     for id in ids {
-        write!(text, " {id}")?;
+        text.push(' ')?;
+        push_id(text, *id)?;
     }
     Ok(())
 }
@@ -124,22 +136,9 @@ fn push_edges(text: &mut String, edges: &[Edge]) -> Result<(), AllocError>
     ensures { OnOk result (string_bytes text.new ≡ string_bytes text.old ++ edges_text edges.now) }
 {
     for edge in edges {
-        let (id, tags, Shard(at)) = (edge.from(), tags(*edge), edge.at());
-        write!(text, " {id}/{tags}@{at}")?;
+        push_edge(text, *edge)?;
     }
     Ok(())
-}
-
-// The tags of a predecessor: i, d or id.
-fn tags(edge: Edge) -> &'static str
-    ensures { result.now ≡ tags_text edge.imm edge.def }
-{
-    match (edge.imm(), edge.def()) {
-        (true, true) => "id",
-        (true, false) => "i",
-        (false, true) => "d",
-        (false, false) => "",
-    }
 }
 
 // Adds the transactions of facts, a space and a + before each.
@@ -147,8 +146,8 @@ fn push_facts(text: &mut String, facts: &[KnownList]) -> Result<(), AllocError>
     ensures { OnOk result (string_bytes text.new ≡ string_bytes text.old ++ facts_text (map (λ fact. fact.of) facts.now)) }
 {
     for fact in facts {
-        let id = fact.of;
-        write!(text, " +{id}")?;
+        text.push_str(" +")?;
+        push_id(text, fact.of)?;
     }
     Ok(())
 }
@@ -242,14 +241,30 @@ pub(crate) fn facts_of(msg: &Msg) -> &[KnownList]
 fn push_sent(text: &mut String, number: u64, sent: &Envelope) -> Result<(), AllocError>
     ensures { OnOk result (string_bytes text.new ≡ string_bytes text.old ++ codes "send " ++ decimal number ++ spaced (message_text (shown_message sent.now))) }
 {
-    let (from, to) = (sent.from, sent.to);
-    write!(text, "send {number} {}", message_kind_text(&sent.msg))?;
-    if let Some(id) = named_by(&sent.msg) {
-        write!(text, " {id}")?;
-    }
-    write!(text, " {from} {to}")?;
+    push_counted(text, "send ", number)?;
+    text.push(' ')?;
+    text.push_str(message_kind_text(&sent.msg))?;
+    push_named(text, named_by(&sent.msg))?;
+    push_nodes(text, sent.from, sent.to)?;
     push_edges(text, edges_of(&sent.msg))?;
     push_facts(text, facts_of(&sent.msg))
+}
+
+// Adds an id, a space before it, where there is one.
+fn push_named(text: &mut String, named: Option<TxnId>) -> Result<(), AllocError>
+    ensures { OnOk result (string_bytes text.new ≡ string_bytes text.old ++ ids_text (option_to_list named)) }
+{
+    match named {
+        Some(id) => push_ids(text, &[id]),
+        None => Ok(()),
+    }
+}
+
+// Adds a sender and a receiver, a space before each.
+fn push_nodes(text: &mut String, from: Node, to: Node) -> Result<(), AllocError>
+    ensures { OnOk result (string_bytes text.new ≡ string_bytes text.old ++ spaced (node_text from) ++ spaced (node_text to)) }
+{
+    write!(text, " {from} {to}")
 }
 
 // Adds a cell and its value.

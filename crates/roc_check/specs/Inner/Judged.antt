@@ -2,7 +2,7 @@
 use Rattle.std.specs.Prelude.{◌≡◌, Result, Ok, Err}
 use Rattle.roc_program.specs.Program.{Workload}
 use Rattle.roc_plan.specs.Groups.{Plan}
-use Rattle.roc_report.specs.Line as line
+use Rattle.roc_report.specs.Checked as line
 use Rattle.roc_check.specs.declared.fault.CheckFault.{CheckFault}
 use Rattle.roc_check.specs.declared.fault.CheckFault.TheVariants.{Apart, Blocked, NoMemory}
 use Rattle.roc_check.specs.Checked.{IsPlanOf, IsRefusedBy}

@@ -15,17 +15,17 @@ use Rattle.roc_lang_scope.specs.declared.fault.ScopeFault.TheVariants as misuse
 use Rattle.roc_lang_scope.specs.Fault.{kind, first}
 use Rattle.roc_program.specs.Program.{Workload}
 use Rattle.roc_plan.specs.Groups.{Plan}
-use Rattle.roc_report.specs.Line.{Line}
-use Rattle.roc_report.specs.Text.{line_text}
+use Rattle.roc_report.specs.Checked.{CheckedLine}
+use Rattle.roc_report.specs.Checked.{checked_text}
 use Rattle.roc_check.specs.Checked.{IsPlanOfText, IsRefusedText}
 use Rattle.roc_cli_files.specs.declared.fault.Fault.{Fault}
 use Rattle.roc_cli_files.specs.declared.fault.Fault.TheVariants.{At, Scope, Rejected, Memory, Sink}
 use Rattle.roc_cli_files.specs.Input.{check_text}
 
 -- what is written of a program that is not acceptable
-abbrev pub RejectionEnds : Workload → Line → (old new : Option (List ℕ)) → Fault → Type 0
-RejectionEnds program said old new Rejected = Adds old new (line_text program said)
-RejectionEnds program said old new Sink = AddsFront old new (line_text program said)
+abbrev pub RejectionEnds : Workload → CheckedLine → (old new : Option (List ℕ)) → Fault → Type 0
+RejectionEnds program said old new Rejected = Adds old new (checked_text program said)
+RejectionEnds program said old new Sink = AddsFront old new (checked_text program said)
 RejectionEnds program said old new Memory = new ≡ old
 RejectionEnds program said old new _ = ⊥
 
@@ -34,8 +34,8 @@ TextFails bytes name old new (At file line what) = (file.now ≡ name) × ((w : 
 TextFails bytes name old new (Scope file line what) =
     (file.now ≡ name) × ((tree : Tree) × IsWorkloadText bytes tree × (first (faults tree) ≡ Some (record { kind = kind what; line = line }))) × (new ≡ old)
 TextFails bytes name old new Memory = new ≡ old
-TextFails bytes name old new Rejected = (program : Workload) × (said : Line) × IsRefusedText bytes program said × Adds old new (line_text program said)
-TextFails bytes name old new Sink = (program : Workload) × (said : Line) × IsRefusedText bytes program said × AddsFront old new (line_text program said)
+TextFails bytes name old new Rejected = (program : Workload) × (said : CheckedLine) × IsRefusedText bytes program said × Adds old new (checked_text program said)
+TextFails bytes name old new Sink = (program : Workload) × (said : CheckedLine) × IsRefusedText bytes program said × AddsFront old new (checked_text program said)
 TextFails bytes name old new _ = ⊥
 
 abbrev pub TextEnds : (bytes name : List ℕ) → (old new : Option (List ℕ)) → Result Plan Fault → Type 0

@@ -1,7 +1,8 @@
 use Rattle.std.proofs.Common.{◌≡◌, ℕ, List, ◌++◌, codes, ap, ◌∙◌, append_assoc}
 use Rattle.std.proofs.lemmas.Result.{on_ok_weaker}
 use Rattle.std.specs.String.{string_bytes}
-use Rattle.roc_report.specs.Text.{piece_text, spaced, cycle_text}
+use Rattle.roc_report.specs.Checked.{piece_text, cycle_text}
+use Rattle.roc_report.specs.Text.{spaced}
 use Rattle.roc_report.proofs.check.push_blocked.Goals as goal
 
 -- parts that were added one by one

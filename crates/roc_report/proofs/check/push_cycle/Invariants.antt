@@ -1,6 +1,6 @@
 use Rattle.std.proofs.Common.{◌≡◌, ◌++◌, take}
 use Rattle.std.specs.String.{string_bytes}
-use Rattle.roc_report.specs.Text.{cycle_text}
+use Rattle.roc_report.specs.Checked.{cycle_text}
 use Rattle.roc_report.proofs.check.push_cycle.Given as goal
 
 abbrev pub invariant-loop-vertex : goal.invariant-loop-vertex

@@ -1,6 +1,6 @@
 use Rattle.std.proofs.Common.{◌≡◌, ◌++◌, take}
 use Rattle.std.specs.String.{string_bytes}
-use Rattle.roc_report.specs.Text.{names_text}
+use Rattle.roc_report.specs.Checked.{names_text}
 use Rattle.roc_report.proofs.check.push_names.Given as goal
 
 abbrev pub invariant-loop-piece : goal.invariant-loop-piece
