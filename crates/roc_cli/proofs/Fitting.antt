@@ -10,7 +10,7 @@ use Rattle.roc_lang_scope.specs.Fault.{first}
 use Rattle.roc_program.specs.Program.{Workload}
 use Rattle.roc_lang_resolve.specs.Resolve.{resolved}
 use Rattle.roc_plan.specs.Groups.{Plan}
-use Rattle.roc_report.specs.Line.{Line}
+use Rattle.roc_report.specs.Checked.{CheckedLine}
 use Rattle.roc_check.specs.Checked.{IsTextOf, IsPlanOfText, IsRefusedBy, IsRefusedText}
 use Rattle.roc_cli_words.specs.declared.value.Part.{Part}
 use Rattle.roc_cli_words.specs.declared.value.ValueName.{ValueName}
@@ -79,7 +79,7 @@ module _ (laws : TextLaws) (content : List ℕ → Option (List ℕ)) (workload 
     same_plan name other same h =
         laws.one_plan bytes other plan (subst (λ b. IsPlanOfText b other) (sym (told content workload name bytes h.bytes held same h.held)) h.is) planned
 
-    pub not_rejected : (name : List ℕ) (program : Workload) (said : Line) → name ≡ workload → HoldsRejected content name program said → ⊥
+    pub not_rejected : (name : List ℕ) (program : Workload) (said : CheckedLine) → name ≡ workload → HoldsRejected content name program said → ⊥
     not_rejected name program said same h =
         let refused : IsRefusedText bytes program said = subst (λ b. IsRefusedText b program said) (sym (told content workload name bytes h.bytes held same h.held)) h.is in
         let e : program ≡ plan.program = refused.text.is ∙ ap resolved (laws.one_tree bytes refused.text.tree tree refused.text.text planned.text.text) ∙ sym planned.text.is in

@@ -6,7 +6,7 @@ use Rattle.roc_base.specs.declared.node.Node.{Node}
 use Rattle.roc_base.specs.declared.node.Shard.{Shard}
 use Rattle.roc_program.specs.Program.{Workload}
 use Rattle.roc_plan.specs.Groups.{Plan}
-use Rattle.roc_report.specs.Line.{Line}
+use Rattle.roc_report.specs.Checked.{CheckedLine}
 use Rattle.roc_log.specs.declared.fault.What.{What}
 use Rattle.roc_log.specs.declared.line.Log.{Log}
 use Rattle.roc_log.specs.Logs.{IsLog, IsLogFault}
@@ -117,7 +117,7 @@ module _ (laws : TextLaws) (call : RunCall) (names : List (List ℕ)) (fit : Aud
   pub asked_taken : (line : List ℕ) → AreRefusedWords call line → ⊥
   asked_taken = words_taken call (audit fit.workload names) fit.given (λ files named. alone (files, named))
 
-  pub asked_unrejected : (workload : List ℕ) (program : Workload) (said : Line) → ComesToWorkload call workload → HoldsRejected call.files.content workload program said → ⊥
+  pub asked_unrejected : (workload : List ℕ) (program : Workload) (said : CheckedLine) → ComesToWorkload call workload → HoldsRejected call.files.content workload program said → ⊥
   asked_unrejected workload program said comes held =
       not_rejected laws call.files.content fit.workload fit.bytes fit.held fit.plan fit.planned workload program said
       (audited_program workload (judged_alone call (audit fit.workload names) fit.given refl workload comes)) held

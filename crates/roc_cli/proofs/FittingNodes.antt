@@ -8,7 +8,7 @@ use Rattle.roc_lang.specs.Grammar.{text_limit}
 use Rattle.roc_program.specs.Program.{Workload}
 use Rattle.roc_plan.specs.Groups.{Plan}
 use Rattle.roc_epoch.specs.declared.next.Next.{Next}
-use Rattle.roc_report.specs.Line.{Line}
+use Rattle.roc_report.specs.Checked.{CheckedLine}
 use Rattle.roc_cluster.specs.declared.fault.ClusterFault.{ClusterFault}
 use Rattle.roc_io.specs.declared.link.Addr.{Addr}
 use Rattle.roc_cluster.specs.declared.fault.ClusterFault.TheVariants as cluster_fault
@@ -168,8 +168,8 @@ module _ (laws : TextLaws) (call : RunCall) where
     asked_right = asked_by (λ _. ⊥)
 
     -- only a workload to grow to is not acceptable
-    pub asked_acceptable : ((name : List ℕ) (plan : Plan) (program : Workload) (said : Line) → ComesToNext call name plan → HoldsRejected content name program said → ⊥)
-        → (name : List ℕ) (program : Workload) (said : Line) → ComesToWorkload call name → HoldsRejected content name program said → ⊥
+    pub asked_acceptable : ((name : List ℕ) (plan : Plan) (program : Workload) (said : CheckedLine) → ComesToNext call name plan → HoldsRejected content name program said → ⊥)
+        → (name : List ℕ) (program : Workload) (said : CheckedLine) → ComesToWorkload call name → HoldsRejected content name program said → ⊥
     asked_acceptable none name program said (inl names) held =
         not_rejected laws content asked.files.workload asked.bytes asked.held asked.plan asked.planned name program said (their_program name names) held
     asked_acceptable none name program said (inr (plan, comes)) held = none name plan program said comes held
@@ -218,11 +218,11 @@ module _ (laws : TextLaws) (call : RunCall) where
     next_by P long bad _ (long_later name plan n comes more) = long name plan n comes more
     next_by P long bad _ (bad_later name plan n number what comes not) = bad name plan n number what comes not
 
-    no_bad_workload : (name : List ℕ) (plan : Plan) (program : Workload) (said : Line) → ComesToNext call name plan → HoldsRejected call.files.content name program said → ⊥
+    no_bad_workload : (name : List ℕ) (plan : Plan) (program : Workload) (said : CheckedLine) → ComesToNext call name plan → HoldsRejected call.files.content name program said → ⊥
     no_bad_workload name plan program said comes held =
         let t = grows_told name plan comes in not_rejected laws call.files.content name t.2.bytes t.2.held t.1.plan t.2.planned name program said refl held
 
-    pub next_unrejected : (workload : List ℕ) (program : Workload) (said : Line) → ComesToWorkload call workload → HoldsRejected call.files.content workload program said → ⊥
+    pub next_unrejected : (workload : List ℕ) (program : Workload) (said : CheckedLine) → ComesToWorkload call workload → HoldsRejected call.files.content workload program said → ⊥
     next_unrejected = asked_acceptable before no_bad_workload
 
   -- ---- all files
@@ -246,7 +246,7 @@ module _ (laws : TextLaws) (call : RunCall) where
     pub nodes_right : (line : List ℕ) → IsRefused call line → ⊥
     nodes_right = asked_right fit.asked no_bad_next
 
-    pub no_rejection : (workload : List ℕ) (program : Workload) (said : Line) → ComesToWorkload call workload → HoldsRejected call.files.content workload program said → ⊥
+    pub no_rejection : (workload : List ℕ) (program : Workload) (said : CheckedLine) → ComesToWorkload call workload → HoldsRejected call.files.content workload program said → ⊥
     no_rejection = next_unrejected fit.asked fit.next fit.following fit.apart
 
   module _ (fit : NodesFit call) where

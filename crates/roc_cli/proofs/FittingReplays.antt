@@ -6,7 +6,7 @@ use Rattle.roc_plan.specs.Groups.{Plan}
 use Rattle.roc_epoch.specs.declared.fault.GrowthFault.{GrowthFault}
 use Rattle.roc_epoch.specs.declared.next.Next.{Next}
 use Rattle.roc_epoch.specs.Growth.{IsGrowth}
-use Rattle.roc_report.specs.Line.{Line}
+use Rattle.roc_report.specs.Checked.{CheckedLine}
 use Rattle.roc_check.specs.Checked.{IsTextOf}
 use Rattle.roc_sched.specs.declared.fault.What.{What as ScheduleWhat}
 use Rattle.roc_sched.specs.Schedule.{most_bytes}
@@ -145,8 +145,8 @@ module _ (laws : TextLaws) (call : RunCall) (asked : ReplayAsked call) where
   asked_right few no_next no_run _ (bad_logs line refused same) = not_audit ⊥ call.words command asked.given refl (refused_logs call line refused)
 
   -- only a workload to grow to is not acceptable
-  pub asked_acceptable : ((name : List ℕ) (plan : Plan) (program : Workload) (said : Line) → ComesToNext call name plan → HoldsRejected content name program said → ⊥)
-      → (name : List ℕ) (program : Workload) (said : Line) → ComesToWorkload call name → HoldsRejected content name program said → ⊥
+  pub asked_acceptable : ((name : List ℕ) (plan : Plan) (program : Workload) (said : CheckedLine) → ComesToNext call name plan → HoldsRejected content name program said → ⊥)
+      → (name : List ℕ) (program : Workload) (said : CheckedLine) → ComesToWorkload call name → HoldsRejected content name program said → ⊥
   asked_acceptable none name program said (inl names) held =
       not_rejected laws content asked.workload asked.bytes asked.held asked.plan asked.planned name program said (the_program name names) held
   asked_acceptable none name program said (inr (plan, comes)) held = none name plan program said comes held
@@ -212,7 +212,7 @@ module _ (laws : TextLaws) (call : RunCall) (fit : ReplayFits call) where
       (subst (λ (m : Option Next). IsTextFault asked.plan m bytes number what call.out.old call.out.new) n
       (subst (λ (p : Plan). IsTextFault p next bytes number what call.out.old call.out.new) (same_asked laws call asked plan bytes of.under) h)))
 
-  no_bad_workload : (name : List ℕ) (plan : Plan) (program : Workload) (said : Line) → ComesToNext call name plan → HoldsRejected call.files.content name program said → ⊥
+  no_bad_workload : (name : List ℕ) (plan : Plan) (program : Workload) (said : CheckedLine) → ComesToNext call name plan → HoldsRejected call.files.content name program said → ⊥
   no_bad_workload name plan program said comes held =
       let found = grows_told name plan comes in
       let t = found.3 in

@@ -2,7 +2,7 @@
 use Rattle.std.proofs.Common.{inl, inr, ℕ, List, Option, Ok, refl}
 use Rattle.roc_base.specs.declared.node.Shard.{Shard}
 use Rattle.roc_program.specs.Program.{Workload}
-use Rattle.roc_report.specs.Line.{Line}
+use Rattle.roc_report.specs.Checked.{CheckedLine}
 use Rattle.roc_cli_words.specs.Commands.{check, print, replay, gen}
 use Rattle.roc_cli_files.specs.Held.{NodeFiles, HoldsRejected}
 use Rattle.roc_cli_files.specs.NodeNames.{LacksShard}
@@ -28,7 +28,7 @@ module _ (laws : TextLaws) (call : WholeCall) (files : NodeFiles) (given : Names
   -- and no node runs, none is lacking, and no workload is rejected
   module _ (unrun : (end : NodesEnd) → AreNodesEnded call end → ⊥) (unspawned : (shard : Shard) (status : Option ℕ) → IsChildBlamed call shard status → ⊥)
       (there : (other : NodeFiles) → NamesNodeFiles call.run.words other → LacksShard call.run.files.content other → ⊥)
-      (unrejected : (workload : List ℕ) (program : Workload) (said : Line) → ComesToWorkload call.run workload → HoldsRejected call.run.files.content workload program said → ⊥) where
+      (unrejected : (workload : List ℕ) (program : Workload) (said : CheckedLine) → ComesToWorkload call.run workload → HoldsRejected call.run.files.content workload program said → ⊥) where
     taken : (line : List ℕ) → AreRefusedWords call.run line → ⊥
     taken _ (by_clap text not) = not given.1.taken
     taken _ (no_value value bad) = no_such_value call.run.words given.0 value given.1 bad

@@ -6,7 +6,7 @@ use Rattle.roc_lang_parse.specs.Fault.{IsWorkloadText}
 use Rattle.roc_program.specs.Program.{Workload}
 use Rattle.roc_lang_resolve.specs.Resolve.{resolved}
 use Rattle.roc_plan.specs.Groups.{Plan}
-use Rattle.roc_report.specs.Line.{Line}
+use Rattle.roc_report.specs.Checked.{CheckedLine}
 use Rattle.roc_check.specs.Checked.{IsTextOf, IsPlanOf, IsPlanOfText}
 use Rattle.roc_cli_words.specs.declared.value.Part.{Part}
 use Rattle.roc_cli_words.specs.Commands.{Command, check, print, replay, stop, local, gen, audit}
@@ -89,7 +89,7 @@ module _ (call : WholeCall) (no : HoldsNoPlan call.run) where
   only_first name (inr (plan, comes)) = absurd (nothing_comes name plan comes)
 
   -- where nothing is rejected either, nothing was due to be written
-  without_text : ((name : List ℕ) (program : Workload) (said : Line) → NamesProgram call.run.words name → HoldsRejected call.run.files.content name program said → ⊥) → IsUnwritten call
+  without_text : ((name : List ℕ) (program : Workload) (said : CheckedLine) → NamesProgram call.run.words name → HoldsRejected call.run.files.content name program said → ⊥) → IsUnwritten call
   without_text unrejected = record { is = without_plan; acceptable = λ h. unrejected h.workload h.program h.said (only_first h.workload h.named) h.held; uncut = uncut }
     where
       uncut : CutsOutput call.run → ⊥

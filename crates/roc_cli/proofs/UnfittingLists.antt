@@ -7,7 +7,7 @@ use Rattle.roc_lang.specs.Grammar.{text_limit}
 use Rattle.roc_program.specs.Program.{Workload}
 use Rattle.roc_plan.specs.Groups.{Plan}
 use Rattle.roc_epoch.specs.declared.next.Next.{Next}
-use Rattle.roc_report.specs.Line.{Line}
+use Rattle.roc_report.specs.Checked.{CheckedLine}
 use Rattle.roc_cluster.specs.declared.fault.ClusterFault.{ClusterFault}
 use Rattle.roc_cluster.specs.FaultText.{fault_text as cluster_text}
 use Rattle.roc_cluster.specs.File.{IsClusterFile}
@@ -109,7 +109,7 @@ module _ (laws : TextLaws) (call : WholeCall) (asked : ClusterAsked call.run) wh
     nothing_comes (inr (name, plan, next, comes)) =
         none comes.files plan comes.addrs comes.requests comes.named comes.held.of_workload.0 comes.held.of_cluster comes.held.of_requests
 
-    unrejected : (workload : List ℕ) (program : Workload) (said : Line) → ComesToWorkload call.run workload → HoldsRejected content workload program said → ⊥
+    unrejected : (workload : List ℕ) (program : Workload) (said : CheckedLine) → ComesToWorkload call.run workload → HoldsRejected content workload program said → ⊥
     unrejected workload program said (inl names) held =
         not_rejected laws content asked.files.workload asked.bytes asked.held asked.plan asked.planned workload program said (same_workload workload (as_workload call.run.words workload names)) held
     unrejected workload program said (inr (plan, comes)) held = nothing_next workload plan comes

@@ -7,7 +7,7 @@ use Rattle.roc_program.specs.Program.{Workload}
 use Rattle.roc_plan.specs.Groups.{Plan}
 use Rattle.roc_epoch.specs.declared.next.Next.{Next}
 use Rattle.roc_epoch.specs.Grown.{IsGrownFrom}
-use Rattle.roc_report.specs.Line.{Line}
+use Rattle.roc_report.specs.Checked.{CheckedLine}
 use Rattle.roc_check.specs.Checked.{IsTextOf, IsPlanOfText}
 use Rattle.roc_cli_words.specs.Commands.{check, print, stop, local, gen}
 use Rattle.roc_cli_nodes.specs.Call.{WholeCall}
@@ -118,7 +118,7 @@ module _ (laws : TextLaws) (call : WholeCall) (asked : NodesAsked call.run) (nam
     }
 
     -- where it is not rejected either, nothing was due to be written
-    module _ (unrejected : (other : List ℕ) (plan : Plan) (program : Workload) (said : Line) → ComesToNext call.run other plan → HoldsRejected content other program said → ⊥) where
+    module _ (unrejected : (other : List ℕ) (plan : Plan) (program : Workload) (said : CheckedLine) → ComesToNext call.run other plan → HoldsRejected content other program said → ⊥) where
       uncut : CutsOutput call.run → ⊥
       uncut (in_report plan next bytes of h) = no_replay laws call.run asked of.under.workload of.under.schedule of.under.growth of.under.given
       uncut (in_text workload tree given held front) = no_name node_files call.run.words (print workload) given refl asked.files asked.given
@@ -152,7 +152,7 @@ module _ (laws : TextLaws) (call : WholeCall) (asked : NodesAsked call.run) (nam
   -- ---- one that has a plan, but is no grown one, or has the same tag
 
   module _ (bytes : List ℕ) (held : content name ≡ Some bytes) (new : Plan) (planned : IsPlanOfText bytes new) where
-    new_acceptable : (other : List ℕ) (plan : Plan) (program : Workload) (said : Line) → ComesToNext call.run other plan → HoldsRejected content other program said → ⊥
+    new_acceptable : (other : List ℕ) (plan : Plan) (program : Workload) (said : CheckedLine) → ComesToNext call.run other plan → HoldsRejected content other program said → ⊥
     new_acceptable other plan program said comes h = not_rejected laws content name bytes held new planned other program said (same_coming other plan comes) h
 
     ungrown_nodes : (IsGrownFrom asked.plan.program new.program → ⊥) → IsUnwritten call

@@ -4,7 +4,7 @@ use Rattle.roc_program.specs.Program.{Workload}
 use Rattle.roc_plan.specs.Groups.{Plan}
 use Rattle.roc_epoch.specs.declared.next.Next.{Next}
 use Rattle.roc_epoch.specs.Grown.{IsGrownFrom}
-use Rattle.roc_report.specs.Line.{Line}
+use Rattle.roc_report.specs.Checked.{CheckedLine}
 use Rattle.roc_check.specs.Checked.{IsTextOf, IsPlanOfText}
 use Rattle.roc_sched.specs.Schedule.{most_bytes}
 use Rattle.roc_replay.specs.declared.asked.BoundLine.{BoundLine}
@@ -53,7 +53,7 @@ module _ (laws : TextLaws) (call : WholeCall) (asked : ReplayAsked call.run) whe
 
   -- where there is nothing to replay, and what is to come next is not rejected either, nothing was due to be written
   asked_unwritten : ((plan : Plan) (next : Option Next) (bytes : List ℕ) → IsReplayOf call.run plan next bytes → ⊥)
-      → ((name : List ℕ) (plan : Plan) (program : Workload) (said : Line) → ComesToNext call.run name plan → HoldsRejected content name program said → ⊥) → IsUnwritten call
+      → ((name : List ℕ) (plan : Plan) (program : Workload) (said : CheckedLine) → ComesToNext call.run name plan → HoldsRejected content name program said → ⊥) → IsUnwritten call
   asked_unwritten none unrejected = record {
     is = asked_undone (λ done. none done.plan done.next done.bytes done.asked);
     acceptable = λ h. asked_acceptable laws call.run asked unrejected h.workload h.program h.said h.named h.held;
@@ -86,7 +86,7 @@ module _ (laws : TextLaws) (call : WholeCall) (asked : ReplayAsked call.run) whe
         no_text_held : (other : List ℕ) (plan : Plan) → other ≡ name → HoldsPlan content other plan → ⊥
         no_text_held other plan same h = none plan.program (subst (λ b. IsTextOf b plan.program) (sym (told content name other bytes h.bytes held same h.held)) h.is.text)
 
-        no_text_rejected : (other : List ℕ) (plan : Plan) (program : Workload) (said : Line) → ComesToNext call.run other plan → HoldsRejected content other program said → ⊥
+        no_text_rejected : (other : List ℕ) (plan : Plan) (program : Workload) (said : CheckedLine) → ComesToNext call.run other plan → HoldsRejected content other program said → ⊥
         no_text_rejected other plan program said comes h =
             none program (subst (λ b. IsTextOf b program) (sym (told content name other bytes h.bytes held (same_coming other plan comes) h.held)) h.is.text)
 
@@ -145,7 +145,7 @@ module _ (laws : TextLaws) (call : WholeCall) (asked : ReplayAsked call.run) whe
         (subst (λ (q : Plan). AsksOnlySent q next lines) p
         (subst (λ (m : Option Next). AsksOnlySent done.plan m lines) n (laws.sent done.plan done.next lines done.run.steps done.run.world done.run.played)))
 
-    next_acceptable : (name : List ℕ) (plan : Plan) (program : Workload) (said : Line) → ComesToNext call.run name plan → HoldsRejected call.run.files.content name program said → ⊥
+    next_acceptable : (name : List ℕ) (plan : Plan) (program : Workload) (said : CheckedLine) → ComesToNext call.run name plan → HoldsRejected call.run.files.content name program said → ⊥
     next_acceptable name plan program said comes held =
         let found = comes_named laws call.run asked name plan comes in
         let t = told_next call.run.files.content asked.plan name found.0 asked.growth next found.1 follows in

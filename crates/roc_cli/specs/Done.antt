@@ -9,8 +9,9 @@ use Rattle.roc_plan.specs.Groups.{Plan}
 use Rattle.roc_plan.specs.Accepted.{IsAccepted}
 use Rattle.roc_epoch.specs.declared.next.Next.{Next}
 use Rattle.roc_epoch.specs.Grown.{IsGrownFrom}
+use Rattle.roc_report.specs.Checked.{CheckedLine, checked_text}
 use Rattle.roc_report.specs.Line.{Line}
-use Rattle.roc_report.specs.Text.{line_text, lines_text}
+use Rattle.roc_report.specs.Text.{lines_text}
 use Rattle.roc_report.specs.Reading.{IsReadInOneWay}
 use Rattle.roc_check.specs.Checked.{IsPlanOfText}
 use Rattle.roc_io.specs.declared.link.Addr.{Addr}
@@ -134,9 +135,9 @@ pub record Rejects (call : RunCall) : Type 0 where
   pub workload : List ℕ
   pub named : ComesToWorkload call workload
   pub program : Workload
-  pub said : Line
+  pub said : CheckedLine
   pub held : HoldsRejected call.files.content workload program said
-  pub taken : Adds call.out.old call.out.new (line_text program said)
+  pub taken : Adds call.out.old call.out.new (checked_text program said)
 
 -- ---- gen
 

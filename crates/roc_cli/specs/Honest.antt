@@ -1,7 +1,7 @@
 -- Calls that audit the logs of one run: docs/PROTOCOL.md, "Auditing"
 use Rattle.std.specs.Prelude.{ℕ, List, []}
-use Rattle.roc_views.specs.World.{World}
-use Rattle.roc_views.specs.Run.{Stepped, IsRun}
+use Rattle.roc_law_world.specs.World.{World}
+use Rattle.roc_law_world.specs.Run.{Stepped, IsRun}
 use Rattle.roc_log.specs.declared.line.Log.{Log}
 use Rattle.roc_law_audit.specs.InTheWorld.{SubmitsNoView}
 use Rattle.roc_law_audit.specs.LogsOfRuns.{AreLogsOfRun}

@@ -11,8 +11,7 @@ use Rattle.roc_log.specs.declared.line.Log.{Log}
 use Rattle.roc_auditor.specs.declared.verdict.Verdict.{Verdict}
 use Rattle.roc_auditor.specs.Verdict.{IsVerdict}
 use Rattle.roc_auditor.specs.VerdictText.{verdict_text}
-use Rattle.roc_report.specs.Line.{Line}
-use Rattle.roc_report.specs.Text.{line_text}
+use Rattle.roc_report.specs.Checked.{CheckedLine, checked_text}
 use Rattle.roc_replay.specs.Ended.{IsCut, IsUnfinished}
 use Rattle.roc_cli_nodes.specs.Call.{RunCall, TakesNothing}
 use Rattle.roc_cli_words.specs.declared.value.Part.{Part}
@@ -55,8 +54,8 @@ pub data CutsOutput (call : RunCall) : Type 0 where
       → AddsFront call.out.old call.out.new (canonical tree) → CutsOutput call
   in_check : (workload : List ℕ) (plan : Plan) → IsCheck call.words workload → HoldsPlan call.files.content workload plan
       → AddsFront call.out.old call.out.new (check_text plan) → CutsOutput call
-  in_rejection : (workload : List ℕ) (program : Workload) (said : Line) → ComesToWorkload call workload → HoldsRejected call.files.content workload program said
-      → AddsFront call.out.old call.out.new (line_text program said) → CutsOutput call
+  in_rejection : (workload : List ℕ) (program : Workload) (said : CheckedLine) → ComesToWorkload call workload → HoldsRejected call.files.content workload program said
+      → AddsFront call.out.old call.out.new (checked_text program said) → CutsOutput call
   in_generated : (seed shards txns : ℕ) (part : Part) (text : List ℕ) → IsGen call.words seed shards txns part → IsGenerated seed shards txns part text
       → AddsFront call.out.old call.out.new text → CutsOutput call
   in_verdict : (plan : Plan) (logs : List Log) (asked : IsAuditOf call plan logs) (verdict : Verdict) → IsVerdict plan logs verdict

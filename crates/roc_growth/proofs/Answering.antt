@@ -12,10 +12,10 @@ use Rattle.roc_step.specs.declared.started.StartedGroup.{StartedGroup}
 use Rattle.roc_step.specs.State.{ServerState}
 use Rattle.roc_audit.specs.declared.entry.Entry.TheVariants.{Submitted, Answered}
 use Rattle.roc_audit.specs.History.{WasSubmitted, WasAnswered}
-use Rattle.roc_protocol.specs.Quiet as transactions
-use Rattle.roc_views.specs.World.{World, first_beginning}
-use Rattle.roc_views.specs.Run as views
-use Rattle.roc_views.specs.Quiet as theirs
+use Rattle.roc_law_protocol.specs.Quiet as transactions
+use Rattle.roc_law_world.specs.World.{World, first_beginning}
+use Rattle.roc_law_world.specs.Run as views
+use Rattle.roc_law_world.specs.Quiet as theirs
 use Rattle.roc_epoch.specs.declared.file.File.{File}
 use Rattle.roc_epoch.specs.declared.file.File.TheVariants.{First, Second}
 use Rattle.roc_epoch.specs.declared.next.Next.{Next}

@@ -19,8 +19,8 @@ use Rattle.roc_audit.specs.declared.entry.Entry.TheVariants.{Submitted, Answered
 use Rattle.roc_audit.specs.History.{WasAnswered}
 use Rattle.roc_audit.specs.Witness.{submitted_calls, IsSerialWitnessFrom}
 use Rattle.roc_audit.specs.Woven.{Look}
-use Rattle.roc_views.specs.World.{World, first_beginning}
-use Rattle.roc_views.specs.Witness as views
+use Rattle.roc_law_world.specs.World.{World, first_beginning}
+use Rattle.roc_law_world.specs.Witness as views
 use Rattle.roc_epoch.specs.declared.next.Next.{Next}
 use Rattle.roc_epoch.specs.Files.{IsNextOf, last_plan}
 use Rattle.roc_two_files.specs.Left.{AreDrained, left_behind}

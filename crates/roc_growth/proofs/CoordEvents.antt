@@ -20,13 +20,13 @@ use Rattle.roc_msg.specs.declared.reason.Reason.TheVariants.{Foreign, Stale}
 use Rattle.roc_plan.specs.Groups.{Plan}
 use Rattle.roc_plan.specs.Accepted.{IsAccepted}
 use Rattle.roc_coord.specs.Step.{after_message}
-use Rattle.roc_protocol.specs.World.{sent_by}
-use Rattle.roc_protocol.specs.declared.event.Event.{Event as TheirEvent}
-use Rattle.roc_views.specs.World.{World, first_beginning}
-use Rattle.roc_views.specs.Happens as happen
-use Rattle.roc_views.specs.Run as views
-use Rattle.roc_views.specs.Run.{Transition}
-use Rattle.roc_views.proofs.Numbered.{numbered}
+use Rattle.roc_law_protocol.specs.World.{sent_by}
+use Rattle.roc_law_protocol.specs.declared.event.Event.{Event as TheirEvent}
+use Rattle.roc_law_world.specs.World.{World, first_beginning}
+use Rattle.roc_law_world.specs.Happens as happen
+use Rattle.roc_law_world.specs.Run as views
+use Rattle.roc_law_world.specs.Run.{Transition}
+use Rattle.roc_law_world.proofs.Numbered.{numbered}
 use Rattle.roc_epoch.specs.declared.file.File.{File}
 use Rattle.roc_epoch.specs.declared.file.File.TheVariants.{First, Second, Neither}
 use Rattle.roc_epoch.specs.declared.next.Next.{Next}

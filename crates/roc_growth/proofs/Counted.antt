@@ -11,13 +11,13 @@ use Rattle.roc_base.specs.declared.node.Node.TheVariants.{Server}
 use Rattle.roc_base.specs.declared.node.Shard.{Shard}
 use Rattle.roc_epoch.specs.declared.file.File.{File}
 use Rattle.roc_msg.specs.declared.msg.Envelope.{Envelope}
-use Rattle.roc_protocol.specs.Quiet as theirs
-use Rattle.roc_protocol.specs.declared.event.Event.{Event}
-use Rattle.roc_protocol.specs.declared.event.Event.TheVariants.{Submit, Deliver, Tick, Stop}
-use Rattle.roc_protocol.specs.declared.event.Kept.{Kept}
-use Rattle.roc_protocol.proofs.FirstTaken.{at_end}
-use Rattle.roc_views.specs.Run as views
-use Rattle.roc_views.proofs.Ranks.{rank_there}
+use Rattle.roc_law_protocol.specs.Quiet as theirs
+use Rattle.roc_law_protocol.specs.declared.event.Event.{Event}
+use Rattle.roc_law_protocol.specs.declared.event.Event.TheVariants.{Submit, Deliver, Tick, Stop}
+use Rattle.roc_law_protocol.specs.declared.event.Kept.{Kept}
+use Rattle.roc_law_protocol.proofs.FirstTaken.{at_end}
+use Rattle.roc_law_world.specs.Run as views
+use Rattle.roc_law_world.proofs.Ranks.{rank_there}
 use Rattle.roc_two_files.specs.Sealed.{Sealed, is_of, of_file, place_in_file}
 use Rattle.roc_growth.specs.declared.event.Event.TheVariants as own
 use Rattle.roc_growth.specs.declared.event.Seen.TheVariants as seen

@@ -12,9 +12,9 @@ use Rattle.roc_plan.specs.Groups.{Plan}
 use Rattle.roc_audit.specs.declared.entry.Entry.{Entry}
 use Rattle.roc_audit.proofs.Splits.{not_empty}
 use Rattle.roc_coord.specs.declared.handled.SubmitFault.TheVariants as core_fault
-use Rattle.roc_protocol.specs.declared.event.Kept.{Kept}
-use Rattle.roc_protocol.proofs.FirstTaken.{at_end}
-use Rattle.roc_views.proofs.ViewsStay.{get-set_here, get-set_other}
+use Rattle.roc_law_protocol.specs.declared.event.Kept.{Kept}
+use Rattle.roc_law_protocol.proofs.FirstTaken.{at_end}
+use Rattle.roc_law_world.proofs.ViewsStay.{get-set_here, get-set_other}
 use Rattle.roc_sequence.proofs.Members.{same_there}
 use Rattle.roc_epoch.specs.declared.file.File.{File}
 use Rattle.roc_epoch.specs.declared.next.Next.{Next}

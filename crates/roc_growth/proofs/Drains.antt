@@ -10,7 +10,7 @@ use Rattle.roc_sequence.proofs.Holds.{every_has}
 use Rattle.roc_sequence.proofs.Members.{from_has_map, same_there}
 use Rattle.roc_base.specs.declared.id.TxnId.{TxnId}
 use Rattle.roc_msg.specs.declared.outbox.Outgoing.{Outgoing}
-use Rattle.roc_protocol.proofs.Stopping.{take_has}
+use Rattle.roc_law_protocol.proofs.Stopping.{take_has}
 use Rattle.roc_epoch.specs.declared.next.Next.{Next}
 use Rattle.roc_epoch.specs.Files.{is_between}
 use Rattle.roc_two_files.proofs.Networks.{AreBetween}

@@ -19,14 +19,14 @@ use Rattle.roc_step.specs.Step.{tick_sends}
 use Rattle.roc_coord.specs.Submit.{Submission, next_id, new_transaction, accepted, accepted_view, after_submit}
 use Rattle.roc_audit.specs.declared.entry.Entry.{Entry}
 use Rattle.roc_audit.specs.declared.entry.Entry.TheVariants.{Submitted}
-use Rattle.roc_protocol.specs.declared.event.Kept.{Kept}
-use Rattle.roc_protocol.proofs.Changed.{get-set_cases, get-set_here}
-use Rattle.roc_protocol.proofs.Named.{all_filter}
-use Rattle.roc_protocol.proofs.ServersHere as cores
-use Rattle.roc_protocol.proofs.Stopping.{all_take}
-use Rattle.roc_protocol.proofs.SubmissionEnds.{IsAnySubmission, any_submission_is, unknown, miscounted, spent, busy, taken}
-use Rattle.roc_views.specs.Fits.{NamesNodes, IsSentHere, IsCoordHere}
-use Rattle.roc_views.proofs.OutsHere.{IsOutHere, AreOutsHere, outs_more}
+use Rattle.roc_law_protocol.specs.declared.event.Kept.{Kept}
+use Rattle.roc_law_protocol.proofs.Changed.{get-set_cases, get-set_here}
+use Rattle.roc_law_protocol.proofs.Named.{all_filter}
+use Rattle.roc_law_protocol.proofs.ServersHere as cores
+use Rattle.roc_law_protocol.proofs.Stopping.{all_take}
+use Rattle.roc_law_protocol.proofs.SubmissionEnds.{IsAnySubmission, any_submission_is, unknown, miscounted, spent, busy, taken}
+use Rattle.roc_law_world.specs.Fits.{NamesNodes, IsSentHere, IsCoordHere}
+use Rattle.roc_law_world.proofs.OutsHere.{IsOutHere, AreOutsHere, outs_more}
 use Rattle.roc_epoch.specs.declared.file.File.{File}
 use Rattle.roc_epoch.specs.declared.next.Next.{Next}
 use Rattle.roc_epoch.specs.Files.{own_plan, IsNextOf}

@@ -23,14 +23,14 @@ use Rattle.roc_coord.specs.State.{CoordState, CoordStep}
 use Rattle.roc_coord.specs.Step.{after_message}
 use Rattle.roc_coord.specs.Submit.{next_id, new_transaction, accepted, accepted_view}
 use Rattle.roc_coord.specs.Tick.{tick_sends}
-use Rattle.roc_protocol.specs.Fits.{IsTransactionHere}
-use Rattle.roc_protocol.proofs.CoordsHere.{IsHeld}
-use Rattle.roc_protocol.proofs.Stopping.{all_take}
-use Rattle.roc_views.specs.Fits.{NamesNodes, IsCoordHere}
-use Rattle.roc_views.proofs.FitCoords as theirs
-use Rattle.roc_views.proofs.FitCoords.{IsViewHeld, Keeps}
-use Rattle.roc_views.proofs.FitServers.{server_keeps, reads_keep}
-use Rattle.roc_views.proofs.OutsHere.{IsOutHere, AreOutsHere, outs_more}
+use Rattle.roc_law_protocol.specs.Fits.{IsTransactionHere}
+use Rattle.roc_law_protocol.proofs.CoordsHere.{IsHeld}
+use Rattle.roc_law_protocol.proofs.Stopping.{all_take}
+use Rattle.roc_law_world.specs.Fits.{NamesNodes, IsCoordHere}
+use Rattle.roc_law_world.proofs.FitCoords as theirs
+use Rattle.roc_law_world.proofs.FitCoords.{IsViewHeld, Keeps}
+use Rattle.roc_law_world.proofs.FitServers.{server_keeps, reads_keep}
+use Rattle.roc_law_world.proofs.OutsHere.{IsOutHere, AreOutsHere, outs_more}
 use Rattle.roc_epoch.specs.declared.file.File.{File}
 use Rattle.roc_epoch.specs.declared.next.Next.{Next}
 use Rattle.roc_epoch.specs.Files.{is_file, own_file, own_plan, IsNextOf}

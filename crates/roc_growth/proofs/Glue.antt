@@ -15,11 +15,11 @@ use Rattle.roc_step.specs.Renewed.{renewed, renewed_viewing}
 use Rattle.roc_step.specs.State.{ServerState, Viewing}
 use Rattle.roc_coord.specs.State.{CoordState}
 use Rattle.roc_coord.specs.Renewed.{renewed_coord}
-use Rattle.roc_protocol.specs.Beginnings as protocol
-use Rattle.roc_protocol.specs.declared.event.Seen.TheVariants as seen_there
-use Rattle.roc_views.specs.World.{World, first_beginning, first_world, begun_viewing}
-use Rattle.roc_views.specs.Happens as happen
-use Rattle.roc_views.specs.Run as views
+use Rattle.roc_law_protocol.specs.Beginnings as protocol
+use Rattle.roc_law_protocol.specs.declared.event.Seen.TheVariants as seen_there
+use Rattle.roc_law_world.specs.World.{World, first_beginning, first_world, begun_viewing}
+use Rattle.roc_law_world.specs.Happens as happen
+use Rattle.roc_law_world.specs.Run as views
 use Rattle.roc_epoch.specs.declared.file.File.{File}
 use Rattle.roc_epoch.specs.declared.file.File.TheVariants.{First, Second}
 use Rattle.roc_epoch.specs.declared.next.Next.{Next}

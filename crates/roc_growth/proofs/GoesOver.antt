@@ -15,11 +15,11 @@ use Rattle.roc_step.specs.Renewed.{renewed, renewed_viewing}
 use Rattle.roc_coord.specs.State.{CoordState}
 use Rattle.roc_coord.specs.Submit.{next_id}
 use Rattle.roc_coord.specs.Renewed.{renewed_coord}
-use Rattle.roc_protocol.specs.declared.event.Seen.TheVariants as seen_there
-use Rattle.roc_protocol.proofs.Changed.{get-set_cases}
-use Rattle.roc_views.specs.World.{World, first_beginning}
-use Rattle.roc_views.specs.Happens as happen
-use Rattle.roc_views.specs.Run as views
+use Rattle.roc_law_protocol.specs.declared.event.Seen.TheVariants as seen_there
+use Rattle.roc_law_protocol.proofs.Changed.{get-set_cases}
+use Rattle.roc_law_world.specs.World.{World, first_beginning}
+use Rattle.roc_law_world.specs.Happens as happen
+use Rattle.roc_law_world.specs.Run as views
 use Rattle.roc_epoch.specs.declared.file.File.{File}
 use Rattle.roc_epoch.specs.declared.file.File.TheVariants.{First, Second}
 use Rattle.roc_epoch.specs.declared.next.Next.{Next}

@@ -16,8 +16,8 @@ use Rattle.roc_coord.specs.State.{CoordState, CoordStep}
 use Rattle.roc_coord.specs.Step.{after_message}
 use Rattle.roc_coord.specs.Submit.{Submission, accepted, accepted_view, new_transaction, next_id, refusal_of, refused_or_accepted, after_submit}
 use Rattle.roc_readonly.specs.Round.{first_round}
-use Rattle.roc_protocol.proofs.Submissions.{keeps_number}
-use Rattle.roc_views.proofs.ViewsStay.{get-set_here, get-set_other}
+use Rattle.roc_law_protocol.proofs.Submissions.{keeps_number}
+use Rattle.roc_law_world.proofs.ViewsStay.{get-set_here, get-set_other}
 use Rattle.roc_sequence.proofs.Members.{same_there}
 use Rattle.roc_epoch.specs.declared.file.File.{File}
 use Rattle.roc_epoch.specs.declared.next.Next.{Next}

@@ -12,10 +12,10 @@ use Rattle.roc_coord.specs.State.{CoordState}
 use Rattle.roc_coord.specs.Renewed.{renewed_coord}
 use Rattle.roc_audit.specs.declared.entry.Entry.TheVariants.{Submitted}
 use Rattle.roc_audit.specs.History.{WasSubmitted}
-use Rattle.roc_protocol.specs.Beginnings.{next_in}
-use Rattle.roc_views.specs.World.{Beginning, first_beginning}
-use Rattle.roc_views.proofs.Numbered.{numbered}
-use Rattle.roc_views.proofs.SameNodes.{run_count}
+use Rattle.roc_law_protocol.specs.Beginnings.{next_in}
+use Rattle.roc_law_world.specs.World.{Beginning, first_beginning}
+use Rattle.roc_law_world.proofs.Numbered.{numbered}
+use Rattle.roc_law_world.proofs.SameNodes.{run_count}
 use Rattle.roc_epoch.specs.Grown.{IsGrownFrom}
 use Rattle.roc_epoch.specs.declared.next.Next.{Next}
 use Rattle.roc_epoch.specs.Files.{last_plan, own_plan, IsNextOf}

@@ -13,10 +13,10 @@ use Rattle.roc_audit.specs.declared.entry.Entry.TheVariants.{Submitted, Answered
 use Rattle.roc_audit.specs.History.{WasSubmitted, WasAnswered, MayFollow, IsToldOnce}
 use Rattle.roc_audit.proofs.Histories.{submitted_front}
 use Rattle.roc_audit.proofs.Splits.{split_append}
-use Rattle.roc_views.specs.World.{first_beginning}
-use Rattle.roc_views.proofs.Answering.{AreTold, answered_submitted}
-use Rattle.roc_views.proofs.AnsweringRuns.{told_in_runs}
-use Rattle.roc_views.proofs.WovenOrder.{is_view, tells_them}
+use Rattle.roc_law_world.specs.World.{first_beginning}
+use Rattle.roc_law_world.proofs.Answering.{AreTold, answered_submitted}
+use Rattle.roc_law_world.proofs.AnsweringRuns.{told_in_runs}
+use Rattle.roc_law_world.proofs.WovenOrder.{is_view, tells_them}
 use Rattle.roc_epoch.specs.declared.next.Next.{Next}
 use Rattle.roc_epoch.specs.Files.{last_plan}
 use Rattle.roc_two_files.specs.Left.{AreDrained}

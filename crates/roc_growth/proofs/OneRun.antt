@@ -14,8 +14,8 @@ use Rattle.roc_step.specs.Reads.{AnswersReads, ReadStep}
 use Rattle.roc_step.specs.State.{ServerState, ServerStep, Viewing}
 use Rattle.roc_step.specs.Step.{Handles}
 use Rattle.roc_coord.specs.declared.handled.SubmitFault.TheVariants as fault
-use Rattle.roc_protocol.specs.declared.event.Kept.{Kept}
-use Rattle.roc_protocol.specs.declared.event.Kept.TheVariants.{Lost, Sent}
+use Rattle.roc_law_protocol.specs.declared.event.Kept.{Kept}
+use Rattle.roc_law_protocol.specs.declared.event.Kept.TheVariants.{Lost, Sent}
 use Rattle.roc_epoch.specs.declared.file.File.{File}
 use Rattle.roc_epoch.specs.declared.next.Next.{Next}
 use Rattle.roc_epoch.specs.Files.{own_plan}

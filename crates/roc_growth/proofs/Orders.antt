@@ -14,7 +14,7 @@ use Rattle.roc_audit.specs.declared.entry.Entry.TheVariants.{Submitted}
 use Rattle.roc_audit.specs.History.{WasSubmitted}
 use Rattle.roc_audit.specs.Order.{noted_one, noted}
 use Rattle.roc_audit.specs.Woven.{without_views, entry_id}
-use Rattle.roc_views.proofs.TimeSteps.{noted_grows}
+use Rattle.roc_law_world.proofs.TimeSteps.{noted_grows}
 
 -- ids that are not in front are noted behind
 pub noted_behind : (xs ys ts : List TxnId) → ((t : TxnId) → Has t ts → ¬ Has t xs) → noted (xs ++ ys) ts ≡ xs ++ noted ys ts

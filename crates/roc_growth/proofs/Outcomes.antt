@@ -22,12 +22,12 @@ use Rattle.roc_step.specs.Reads.{reads_behind}
 use Rattle.roc_coord.specs.declared.handled.SubmitFault.TheVariants as fault
 use Rattle.roc_coord.specs.Submit.{most_transactions, most_pending, next_id, new_transaction, refused, refused_or_accepted, accepted, accepted_view, after_submit, Submission}
 use Rattle.roc_audit.specs.declared.entry.Entry.TheVariants.{Submitted}
-use Rattle.roc_protocol.specs.Fits.{IsNode}
-use Rattle.roc_protocol.specs.declared.event.Kept.{Kept}
-use Rattle.roc_protocol.specs.declared.event.Kept.TheVariants.{Lost, Sent}
-use Rattle.roc_protocol.proofs.Findings.{decided_there, handled}
-use Rattle.roc_protocol.proofs.SubmissionEnds.{IsAnySubmission, any_submission_is, unknown, miscounted, spent, busy, taken}
-use Rattle.roc_views.specs.Fits.{IsSentHere}
+use Rattle.roc_law_protocol.specs.Fits.{IsNode}
+use Rattle.roc_law_protocol.specs.declared.event.Kept.{Kept}
+use Rattle.roc_law_protocol.specs.declared.event.Kept.TheVariants.{Lost, Sent}
+use Rattle.roc_law_protocol.proofs.Findings.{decided_there, handled}
+use Rattle.roc_law_protocol.proofs.SubmissionEnds.{IsAnySubmission, any_submission_is, unknown, miscounted, spent, busy, taken}
+use Rattle.roc_law_world.specs.Fits.{IsSentHere}
 use Rattle.roc_epoch.specs.declared.file.File.{File}
 use Rattle.roc_epoch.specs.declared.file.File.TheVariants.{First, Second, Neither}
 use Rattle.roc_epoch.specs.declared.next.Next.{Next}

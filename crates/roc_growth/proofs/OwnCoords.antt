@@ -23,18 +23,18 @@ use Rattle.roc_coord.specs.Step.{after_message}
 use Rattle.roc_coord.specs.Submit.{Submission, accepted, accepted_view, next_id, new_transaction, after_submit}
 use Rattle.roc_audit.specs.declared.entry.Entry.{Entry}
 use Rattle.roc_audit.specs.declared.entry.Entry.TheVariants as entry
-use Rattle.roc_protocol.specs.World.{sent_by}
-use Rattle.roc_protocol.specs.declared.event.Event.{Event as TheirEvent}
-use Rattle.roc_protocol.specs.declared.event.Event.TheVariants as one
-use Rattle.roc_protocol.specs.declared.event.Seen.TheVariants as seen_there
-use Rattle.roc_protocol.proofs.Changed.{get-set_here}
-use Rattle.roc_protocol.proofs.Submissions.{keeps_number}
-use Rattle.roc_protocol.proofs.SubmissionEnds.{IsAnySubmission, any_submission_is, unknown, miscounted, spent, busy, taken}
-use Rattle.roc_views.specs.World as views
-use Rattle.roc_views.specs.World.{World, reads_for, first_look, looks_in}
-use Rattle.roc_views.specs.Happens as happen
-use Rattle.roc_views.specs.Run.{Transition}
-use Rattle.roc_views.proofs.Besides.{set_there}
+use Rattle.roc_law_protocol.specs.World.{sent_by}
+use Rattle.roc_law_protocol.specs.declared.event.Event.{Event as TheirEvent}
+use Rattle.roc_law_protocol.specs.declared.event.Event.TheVariants as one
+use Rattle.roc_law_protocol.specs.declared.event.Seen.TheVariants as seen_there
+use Rattle.roc_law_protocol.proofs.Changed.{get-set_here}
+use Rattle.roc_law_protocol.proofs.Submissions.{keeps_number}
+use Rattle.roc_law_protocol.proofs.SubmissionEnds.{IsAnySubmission, any_submission_is, unknown, miscounted, spent, busy, taken}
+use Rattle.roc_law_world.specs.World as views
+use Rattle.roc_law_world.specs.World.{World, reads_for, first_look, looks_in}
+use Rattle.roc_law_world.specs.Happens as happen
+use Rattle.roc_law_world.specs.Run.{Transition}
+use Rattle.roc_law_world.proofs.Besides.{set_there}
 use Rattle.roc_epoch.specs.declared.file.File.{File}
 use Rattle.roc_epoch.specs.declared.next.Next.{Next}
 use Rattle.roc_epoch.specs.Files.{is_between, own_file, own_plan}

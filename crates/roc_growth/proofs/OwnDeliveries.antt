@@ -15,17 +15,17 @@ use Rattle.roc_coord.specs.State.{CoordStep}
 use Rattle.roc_coord.specs.Step.{after_message}
 use Rattle.roc_coord.specs.Submit.{next_id}
 use Rattle.roc_coord.specs.Tick as tick
-use Rattle.roc_protocol.specs.World.{sent_by}
-use Rattle.roc_protocol.specs.Happens.{answer_entries as their_entries}
-use Rattle.roc_protocol.specs.declared.event.Event.{Event as TheirEvent}
-use Rattle.roc_protocol.specs.declared.event.Event.TheVariants as one
-use Rattle.roc_protocol.specs.declared.event.Seen.TheVariants as seen_there
-use Rattle.roc_protocol.proofs.Changed.{get-set_here}
-use Rattle.roc_views.specs.World as views
-use Rattle.roc_views.specs.World.{World, reads_for, first_look}
-use Rattle.roc_views.specs.Happens as happen
-use Rattle.roc_views.specs.Run.{Transition}
-use Rattle.roc_views.proofs.Besides.{set_there}
+use Rattle.roc_law_protocol.specs.World.{sent_by}
+use Rattle.roc_law_protocol.specs.Happens.{answer_entries as their_entries}
+use Rattle.roc_law_protocol.specs.declared.event.Event.{Event as TheirEvent}
+use Rattle.roc_law_protocol.specs.declared.event.Event.TheVariants as one
+use Rattle.roc_law_protocol.specs.declared.event.Seen.TheVariants as seen_there
+use Rattle.roc_law_protocol.proofs.Changed.{get-set_here}
+use Rattle.roc_law_world.specs.World as views
+use Rattle.roc_law_world.specs.World.{World, reads_for, first_look}
+use Rattle.roc_law_world.specs.Happens as happen
+use Rattle.roc_law_world.specs.Run.{Transition}
+use Rattle.roc_law_world.proofs.Besides.{set_there}
 use Rattle.roc_epoch.specs.declared.file.File.{File}
 use Rattle.roc_epoch.specs.declared.next.Next.{Next}
 use Rattle.roc_epoch.specs.Files.{is_file, own_file, own_plan}

@@ -15,16 +15,16 @@ use Rattle.roc_step.specs.Reads.{AnswersReads, ReadStep}
 use Rattle.roc_step.specs.State.{answered, ServerState, ServerStep}
 use Rattle.roc_step.specs.Step.{Handles, tick_sends}
 use Rattle.roc_audit.specs.Order.{noted}
-use Rattle.roc_protocol.specs.World.{sent_by}
-use Rattle.roc_protocol.specs.declared.event.Event.{Event as TheirEvent}
-use Rattle.roc_protocol.specs.declared.event.Event.TheVariants as one
-use Rattle.roc_protocol.specs.declared.event.Seen.TheVariants as seen_there
-use Rattle.roc_protocol.specs.declared.event.Kept.{Kept}
-use Rattle.roc_views.specs.World as views
-use Rattle.roc_views.specs.World.{World}
-use Rattle.roc_views.specs.Happens as happen
-use Rattle.roc_views.specs.Run.{Transition}
-use Rattle.roc_views.proofs.Besides.{set_there}
+use Rattle.roc_law_protocol.specs.World.{sent_by}
+use Rattle.roc_law_protocol.specs.declared.event.Event.{Event as TheirEvent}
+use Rattle.roc_law_protocol.specs.declared.event.Event.TheVariants as one
+use Rattle.roc_law_protocol.specs.declared.event.Seen.TheVariants as seen_there
+use Rattle.roc_law_protocol.specs.declared.event.Kept.{Kept}
+use Rattle.roc_law_world.specs.World as views
+use Rattle.roc_law_world.specs.World.{World}
+use Rattle.roc_law_world.specs.Happens as happen
+use Rattle.roc_law_world.specs.Run.{Transition}
+use Rattle.roc_law_world.proofs.Besides.{set_there}
 use Rattle.roc_epoch.specs.declared.file.File.{File}
 use Rattle.roc_epoch.specs.declared.file.File.TheVariants.{Neither}
 use Rattle.roc_epoch.specs.declared.next.Next.{Next}

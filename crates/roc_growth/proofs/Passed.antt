@@ -19,11 +19,11 @@ use Rattle.roc_coord.specs.State.{CoordState}
 use Rattle.roc_coord.specs.Step.{after_message}
 use Rattle.roc_audit.specs.declared.entry.Entry.{Entry}
 use Rattle.roc_audit.specs.History.{WasSubmitted}
-use Rattle.roc_protocol.specs.declared.event.Event.TheVariants as their_event
-use Rattle.roc_protocol.specs.declared.event.Seen.TheVariants as their_seen
-use Rattle.roc_protocol.proofs.Changed.{get-front}
-use Rattle.roc_views.specs.World as views
-use Rattle.roc_views.specs.Happens as theirs
+use Rattle.roc_law_protocol.specs.declared.event.Event.TheVariants as their_event
+use Rattle.roc_law_protocol.specs.declared.event.Seen.TheVariants as their_seen
+use Rattle.roc_law_protocol.proofs.Changed.{get-front}
+use Rattle.roc_law_world.specs.World as views
+use Rattle.roc_law_world.specs.Happens as theirs
 use Rattle.roc_epoch.specs.declared.file.File.{File}
 use Rattle.roc_epoch.specs.declared.file.File.TheVariants.{First, Second}
 use Rattle.roc_epoch.specs.declared.next.Next.{Next}

@@ -14,13 +14,13 @@ use Rattle.roc_coord.specs.State.{CoordState}
 use Rattle.roc_coord.specs.Submit.{next_id}
 use Rattle.roc_coord.specs.Renewed.{renewed_coord}
 use Rattle.roc_audit.specs.Order.{noted}
-use Rattle.roc_protocol.specs.World.{sent_by}
-use Rattle.roc_protocol.specs.declared.event.Event.{Event as TheirEvent}
-use Rattle.roc_views.specs.World.{World, Beginning, first_beginning, begun_world}
-use Rattle.roc_views.specs.Beginnings.{IsViewBeginning}
-use Rattle.roc_views.specs.Fits.{FitsWorld}
-use Rattle.roc_views.specs.Happens as happen
-use Rattle.roc_views.specs.Run as views
+use Rattle.roc_law_protocol.specs.World.{sent_by}
+use Rattle.roc_law_protocol.specs.declared.event.Event.{Event as TheirEvent}
+use Rattle.roc_law_world.specs.World.{World, Beginning, first_beginning, begun_world}
+use Rattle.roc_law_world.specs.Beginnings.{IsViewBeginning}
+use Rattle.roc_law_world.specs.Fits.{FitsWorld}
+use Rattle.roc_law_world.specs.Happens as happen
+use Rattle.roc_law_world.specs.Run as views
 use Rattle.roc_epoch.specs.declared.file.File.{File}
 use Rattle.roc_epoch.specs.declared.file.File.TheVariants.{First, Second, Neither}
 use Rattle.roc_epoch.specs.declared.next.Next.{Next}

@@ -7,14 +7,14 @@ use Rattle.std.specs.List.{filter}
 use Rattle.roc_base.specs.declared.node.Shard.{Shard}
 use Rattle.roc_msg.specs.declared.msg.Envelope.{Envelope}
 use Rattle.roc_plan.specs.Groups.{Plan}
-use Rattle.roc_protocol.specs.declared.event.Event.TheVariants as one
-use Rattle.roc_protocol.specs.declared.event.Seen.TheVariants as seen_there
-use Rattle.roc_protocol.specs.declared.event.Kept.{Kept}
-use Rattle.roc_views.specs.Happens as views_happen
-use Rattle.roc_views.specs.Run as views
-use Rattle.roc_views.specs.World.{World, Beginning}
-use Rattle.roc_views.proofs.Ranks.{rank_there, rank_append}
-use Rattle.roc_views.proofs.Sent.{filter_append}
+use Rattle.roc_law_protocol.specs.declared.event.Event.TheVariants as one
+use Rattle.roc_law_protocol.specs.declared.event.Seen.TheVariants as seen_there
+use Rattle.roc_law_protocol.specs.declared.event.Kept.{Kept}
+use Rattle.roc_law_world.specs.Happens as views_happen
+use Rattle.roc_law_world.specs.Run as views
+use Rattle.roc_law_world.specs.World.{World, Beginning}
+use Rattle.roc_law_world.proofs.Ranks.{rank_there, rank_append}
+use Rattle.roc_law_world.proofs.Sent.{filter_append}
 use Rattle.roc_epoch.specs.declared.file.File.{File}
 use Rattle.roc_two_files.specs.Sealed.{Sealed, is_of, of_file, place_in_file}
 use Rattle.roc_growth.specs.declared.event.Event.TheVariants.{Deliver}

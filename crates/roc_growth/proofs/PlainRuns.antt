@@ -24,16 +24,16 @@ use Rattle.roc_coord.specs.Step.{after_message}
 use Rattle.roc_coord.specs.Submit.{Submission, accepted, accepted_view, next_id, new_transaction, after_submit}
 use Rattle.roc_coord.specs.Tick as coord_tick
 use Rattle.roc_audit.specs.declared.entry.Entry.TheVariants as entry
-use Rattle.roc_protocol.specs.Happens.{ran_at, server_seen as their_server_seen, coord_seen as their_coord_seen, answer_entries as their_entries, IsSentTo as IsTheirsTo}
-use Rattle.roc_protocol.specs.declared.event.Event.{Event as TheirEvent}
-use Rattle.roc_protocol.specs.declared.event.Event.TheVariants as one
-use Rattle.roc_protocol.specs.declared.event.Seen.TheVariants as seen_there
-use Rattle.roc_protocol.specs.declared.event.Kept.{Kept}
-use Rattle.roc_protocol.proofs.SubmissionEnds.{IsAnySubmission, any_submission_is, unknown, miscounted, spent, busy, taken}
-use Rattle.roc_views.specs.World.{World}
-use Rattle.roc_views.specs.World as views
-use Rattle.roc_views.specs.Happens as views_happen
-use Rattle.roc_views.specs.Run as views_run
+use Rattle.roc_law_protocol.specs.Happens.{ran_at, server_seen as their_server_seen, coord_seen as their_coord_seen, answer_entries as their_entries, IsSentTo as IsTheirsTo}
+use Rattle.roc_law_protocol.specs.declared.event.Event.{Event as TheirEvent}
+use Rattle.roc_law_protocol.specs.declared.event.Event.TheVariants as one
+use Rattle.roc_law_protocol.specs.declared.event.Seen.TheVariants as seen_there
+use Rattle.roc_law_protocol.specs.declared.event.Kept.{Kept}
+use Rattle.roc_law_protocol.proofs.SubmissionEnds.{IsAnySubmission, any_submission_is, unknown, miscounted, spent, busy, taken}
+use Rattle.roc_law_world.specs.World.{World}
+use Rattle.roc_law_world.specs.World as views
+use Rattle.roc_law_world.specs.Happens as views_happen
+use Rattle.roc_law_world.specs.Run as views_run
 use Rattle.roc_two_files.specs.Sealed.{Sealed}
 use Rattle.roc_grown.specs.Server.{GrownServerState, GrownStep, GrownHandles, handled_so, of_core, taken_at}
 use Rattle.roc_grown.specs.Coord as grown

@@ -22,11 +22,11 @@ use Rattle.roc_coord.specs.State.{CoordState, CoordStep}
 use Rattle.roc_coord.specs.Step.{after_message}
 use Rattle.roc_coord.specs.Tick.{tick_sends}
 use Rattle.roc_audit.specs.declared.entry.Entry.{Entry}
-use Rattle.roc_protocol.specs.Beginnings.{begun_server, begun_coord, first_beginning as their_beginning}
-use Rattle.roc_protocol.specs.World.{sent_by}
-use Rattle.roc_protocol.proofs.Findings.{decided_there, handled}
-use Rattle.roc_views.specs.World as views
-use Rattle.roc_views.specs.World.{World, first_world, first_beginning, begun_viewing}
+use Rattle.roc_law_protocol.specs.Beginnings.{begun_server, begun_coord, first_beginning as their_beginning}
+use Rattle.roc_law_protocol.specs.World.{sent_by}
+use Rattle.roc_law_protocol.proofs.Findings.{decided_there, handled}
+use Rattle.roc_law_world.specs.World as views
+use Rattle.roc_law_world.specs.World.{World, first_world, first_beginning, begun_viewing}
 use Rattle.roc_epoch.specs.declared.file.File.TheVariants.{Neither}
 use Rattle.roc_epoch.specs.Files.{is_between, file_of, own_file}
 use Rattle.roc_two_files.specs.Sealed.{sealed_by}

@@ -19,11 +19,11 @@ use Rattle.roc_step.specs.Reads.{holds_up}
 use Rattle.roc_step.specs.State.{ServerState}
 use Rattle.roc_audit.specs.declared.entry.Entry.TheVariants.{Submitted}
 use Rattle.roc_audit.specs.History.{WasSubmitted}
-use Rattle.roc_protocol.specs.Quiet as transactions
-use Rattle.roc_views.specs.World.{World}
-use Rattle.roc_views.specs.Run as views
-use Rattle.roc_views.specs.Quiet as theirs
-use Rattle.roc_views.proofs.Ranks.{from_rank}
+use Rattle.roc_law_protocol.specs.Quiet as transactions
+use Rattle.roc_law_world.specs.World.{World}
+use Rattle.roc_law_world.specs.Run as views
+use Rattle.roc_law_world.specs.Quiet as theirs
+use Rattle.roc_law_world.proofs.Ranks.{from_rank}
 use Rattle.roc_epoch.specs.declared.file.File.{File}
 use Rattle.roc_epoch.specs.declared.file.File.TheVariants.{First, Second}
 use Rattle.roc_epoch.specs.declared.next.Next.{Next}

@@ -7,7 +7,7 @@ use Rattle.roc_base.specs.declared.id.TxnId.{TxnId}
 use Rattle.roc_plan.specs.Groups.{Plan, is_view_of}
 use Rattle.roc_coord.specs.Submit.{Submission, accepted, accepted_view, new_transaction, next_id, most_pending, most_transactions, after_submit}
 use Rattle.roc_readonly.specs.Round.{first_round}
-use Rattle.roc_protocol.proofs.SubmissionEnds.{IsAnySubmission, any_submission_is, unknown, miscounted, spent, busy, taken}
+use Rattle.roc_law_protocol.proofs.SubmissionEnds.{IsAnySubmission, any_submission_is, unknown, miscounted, spent, busy, taken}
 use Rattle.roc_epoch.specs.declared.next.Next.{Next}
 use Rattle.roc_epoch.specs.Files.{own_plan}
 use Rattle.roc_grown.specs.declared.handled.GrownFault.TheVariants as fault

@@ -12,14 +12,14 @@ use Rattle.roc_plan.specs.Accepted.{IsAccepted}
 use Rattle.roc_step.specs.Renewed.{renewed, renewed_viewing}
 use Rattle.roc_step.specs.State.{ServerState, Viewing}
 use Rattle.roc_step.specs.Step.{tick_sends}
-use Rattle.roc_protocol.specs.World.{sent_by}
-use Rattle.roc_protocol.specs.declared.event.Event.{Event as TheirEvent}
-use Rattle.roc_protocol.proofs.Changed.{get-set_here}
-use Rattle.roc_views.specs.World.{World, first_beginning}
-use Rattle.roc_views.specs.Happens as happen
-use Rattle.roc_views.specs.Run as views
-use Rattle.roc_views.specs.Run.{Transition}
-use Rattle.roc_views.proofs.SameNodes.{run_count}
+use Rattle.roc_law_protocol.specs.World.{sent_by}
+use Rattle.roc_law_protocol.specs.declared.event.Event.{Event as TheirEvent}
+use Rattle.roc_law_protocol.proofs.Changed.{get-set_here}
+use Rattle.roc_law_world.specs.World.{World, first_beginning}
+use Rattle.roc_law_world.specs.Happens as happen
+use Rattle.roc_law_world.specs.Run as views
+use Rattle.roc_law_world.specs.Run.{Transition}
+use Rattle.roc_law_world.proofs.SameNodes.{run_count}
 use Rattle.roc_epoch.specs.declared.file.File.{File}
 use Rattle.roc_epoch.specs.declared.file.File.TheVariants.{First, Second, Neither}
 use Rattle.roc_epoch.specs.declared.next.Next.{Next}

@@ -15,8 +15,8 @@ use Rattle.roc_plan.specs.Accepted.{IsAccepted}
 use Rattle.roc_step.specs.Reads.{AnswersReads, ReadStep}
 use Rattle.roc_step.specs.State.{ServerStep}
 use Rattle.roc_step.specs.Step.{Handles}
-use Rattle.roc_protocol.specs.World.{sent_by}
-use Rattle.roc_views.specs.World.{World}
+use Rattle.roc_law_protocol.specs.World.{sent_by}
+use Rattle.roc_law_world.specs.World.{World}
 use Rattle.roc_epoch.specs.declared.file.File.{File}
 use Rattle.roc_epoch.specs.declared.file.File.TheVariants.{First, Second, Neither}
 use Rattle.roc_epoch.specs.declared.next.Next.{Next}

@@ -18,11 +18,11 @@ use Rattle.roc_step.specs.Renewed.{renewed}
 use Rattle.roc_step.specs.State.{answered, ServerStep}
 use Rattle.roc_step.specs.Step.{Handles, tick_sends}
 use Rattle.roc_audit.specs.Order.{noted}
-use Rattle.roc_protocol.specs.declared.event.Kept.{Kept}
-use Rattle.roc_protocol.specs.declared.event.Kept.TheVariants.{Sent}
-use Rattle.roc_protocol.proofs.Stopping.{take_has, take_none}
-use Rattle.roc_views.specs.World.{World}
-use Rattle.roc_views.specs.Happens as happen
+use Rattle.roc_law_protocol.specs.declared.event.Kept.{Kept}
+use Rattle.roc_law_protocol.specs.declared.event.Kept.TheVariants.{Sent}
+use Rattle.roc_law_protocol.proofs.Stopping.{take_has, take_none}
+use Rattle.roc_law_world.specs.World.{World}
+use Rattle.roc_law_world.specs.Happens as happen
 use Rattle.roc_epoch.specs.declared.file.File.{File}
 use Rattle.roc_epoch.specs.declared.file.File.TheVariants.{First, Second}
 use Rattle.roc_epoch.specs.declared.next.Next.{Next}

@@ -16,10 +16,10 @@ use Rattle.roc_coord.specs.Submit.{Submission, accepted, accepted_view, new_tran
 use Rattle.roc_readonly.specs.Round.{first_round}
 use Rattle.roc_audit.specs.declared.entry.Entry.TheVariants.{Submitted}
 use Rattle.roc_audit.specs.History.{WasSubmitted}
-use Rattle.roc_protocol.specs.declared.event.Kept.{Kept}
-use Rattle.roc_views.specs.World.{first_beginning}
-use Rattle.roc_views.proofs.Numbered.{numbered}
-use Rattle.roc_views.proofs.ViewsStay.{get-set_here}
+use Rattle.roc_law_protocol.specs.declared.event.Kept.{Kept}
+use Rattle.roc_law_world.specs.World.{first_beginning}
+use Rattle.roc_law_world.proofs.Numbered.{numbered}
+use Rattle.roc_law_world.proofs.ViewsStay.{get-set_here}
 use Rattle.roc_epoch.specs.declared.next.Next.{Next}
 use Rattle.roc_epoch.specs.Files.{last_plan, own_plan}
 use Rattle.roc_two_files.specs.Left.{left_behind}

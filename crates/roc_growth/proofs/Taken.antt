@@ -26,11 +26,11 @@ use Rattle.roc_step.specs.declared.handled.Handled.TheVariants as core_server_an
 use Rattle.roc_step.specs.State.{ServerState, ServerStep, Viewing}
 use Rattle.roc_step.specs.Reads.{ReadStep, AnswersReads}
 use Rattle.roc_step.specs.Step as step
-use Rattle.roc_protocol.specs.declared.event.Event.TheVariants as their_event
-use Rattle.roc_protocol.specs.declared.event.Seen.TheVariants as their_seen
-use Rattle.roc_protocol.specs.Happens as their_seeing
-use Rattle.roc_views.specs.World as views
-use Rattle.roc_views.specs.Happens as theirs
+use Rattle.roc_law_protocol.specs.declared.event.Event.TheVariants as their_event
+use Rattle.roc_law_protocol.specs.declared.event.Seen.TheVariants as their_seen
+use Rattle.roc_law_protocol.specs.Happens as their_seeing
+use Rattle.roc_law_world.specs.World as views
+use Rattle.roc_law_world.specs.Happens as theirs
 use Rattle.roc_epoch.specs.declared.file.File.{File}
 use Rattle.roc_epoch.specs.declared.file.File.TheVariants.{First, Second, Neither}
 use Rattle.roc_epoch.specs.declared.next.Next.{Next}

@@ -12,7 +12,7 @@ use Rattle.roc_msg.specs.declared.msg.Msg.{Msg}
 use Rattle.roc_msg.specs.declared.msg.Msg.TheVariants.{Drained, Switched}
 use Rattle.roc_audit.specs.declared.entry.Entry.{Entry}
 use Rattle.roc_audit.specs.Woven.{Look}
-use Rattle.roc_protocol.proofs.Changed.{get-set_here, get-set_other, get-set_cases}
+use Rattle.roc_law_protocol.proofs.Changed.{get-set_here, get-set_other, get-set_cases}
 use Rattle.roc_epoch.specs.Files.{is_between}
 use Rattle.roc_two_files.specs.Sealed.{Sealed}
 use Rattle.roc_grown.specs.Server.{GrownServerState}

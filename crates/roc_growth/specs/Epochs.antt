@@ -6,10 +6,10 @@ use Rattle.roc_step.specs.Renewed.{renewed, renewed_viewing}
 use Rattle.roc_coord.specs.State.{CoordState}
 use Rattle.roc_coord.specs.Submit.{next_id}
 use Rattle.roc_coord.specs.Renewed.{renewed_coord}
-use Rattle.roc_protocol.specs.declared.event.Event.TheVariants as one
-use Rattle.roc_protocol.specs.declared.event.Kept.{Kept}
-use Rattle.roc_views.specs.World.{World, first_beginning, begun_world}
-use Rattle.roc_views.specs.Run as views
+use Rattle.roc_law_protocol.specs.declared.event.Event.TheVariants as one
+use Rattle.roc_law_protocol.specs.declared.event.Kept.{Kept}
+use Rattle.roc_law_world.specs.World.{World, first_beginning, begun_world}
+use Rattle.roc_law_world.specs.Run as views
 use Rattle.roc_epoch.specs.declared.file.File.{File}
 use Rattle.roc_epoch.specs.declared.file.File.TheVariants.{First, Second}
 use Rattle.roc_epoch.specs.declared.next.Next.{Next}

@@ -2,8 +2,8 @@
 use Rattle.std.specs.Prelude.{◌≡◌, ℕ, ◌<◌, ◌≤◌, Option, Some, length, slice_get, IfSome}
 use Rattle.std.specs.List.{AllByRecursion}
 use Rattle.roc_plan.specs.Groups.{Plan}
-use Rattle.roc_protocol.specs.Fits.{IsServerHere}
-use Rattle.roc_views.specs.Fits.{IsSentHere, IsViewingHere, IsCoordHere}
+use Rattle.roc_law_protocol.specs.Fits.{IsServerHere}
+use Rattle.roc_law_world.specs.Fits.{IsSentHere, IsViewingHere, IsCoordHere}
 use Rattle.roc_epoch.specs.declared.next.Next.{Next}
 use Rattle.roc_grown.specs.Server.{GrownServerState}
 use Rattle.roc_grown.specs.Fits.{GrownServerFits, GrownCoordFits}

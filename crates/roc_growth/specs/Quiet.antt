@@ -17,7 +17,7 @@ use Rattle.roc_readonly.specs.Round.{last_round}
 use Rattle.roc_readonly.specs.declared.view.View.{View}
 use Rattle.roc_audit.specs.declared.entry.Entry.TheVariants.{Submitted}
 use Rattle.roc_audit.specs.History.{WasAnswered}
-use Rattle.roc_protocol.specs.Quiet as transactions
+use Rattle.roc_law_protocol.specs.Quiet as transactions
 use Rattle.roc_two_files.specs.Sealed.{Sealed}
 use Rattle.roc_grown.specs.Server.{GrownServerState}
 use Rattle.roc_grown.specs.Coord.{GrownCoordState}

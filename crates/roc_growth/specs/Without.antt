@@ -3,12 +3,12 @@ use Rattle.std.specs.Prelude.{false, List, [], ◌∷◌, Option, Some, None, ma
 use Rattle.roc_msg.specs.declared.msg.Envelope.{Envelope}
 use Rattle.roc_step.specs.State.{ServerState, Viewing}
 use Rattle.roc_coord.specs.State.{CoordState}
-use Rattle.roc_protocol.specs.declared.event.Event as its
-use Rattle.roc_protocol.specs.declared.event.Event.TheVariants as one
-use Rattle.roc_protocol.specs.declared.event.Seen as its_seen
-use Rattle.roc_protocol.specs.declared.event.Seen.TheVariants as seen_there
-use Rattle.roc_views.specs.World.{World}
-use Rattle.roc_views.specs.Run as views
+use Rattle.roc_law_protocol.specs.declared.event.Event as its
+use Rattle.roc_law_protocol.specs.declared.event.Event.TheVariants as one
+use Rattle.roc_law_protocol.specs.declared.event.Seen as its_seen
+use Rattle.roc_law_protocol.specs.declared.event.Seen.TheVariants as seen_there
+use Rattle.roc_law_world.specs.World.{World}
+use Rattle.roc_law_world.specs.Run as views
 use Rattle.roc_epoch.specs.Files.{file_of}
 use Rattle.roc_two_files.specs.Sealed.{Sealed}
 use Rattle.roc_grown.specs.Server.{GrownServerState, none_drained}

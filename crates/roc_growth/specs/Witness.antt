@@ -3,7 +3,7 @@ use Rattle.std.specs.Prelude.{◌≡◌, ℕ, ℤ, List, ◌∷◌, ◌++◌, Op
 use Rattle.roc_base.specs.declared.id.TxnId.{TxnId}
 use Rattle.roc_plan.specs.Groups.{Plan}
 use Rattle.roc_epoch.specs.declared.next.Next.{Next}
-use Rattle.roc_views.specs.Witness.{witness_in}
+use Rattle.roc_law_world.specs.Witness.{witness_in}
 use Rattle.roc_grown.specs.Coord.{GrownCoordState}
 use Rattle.roc_growth.specs.declared.event.Event.TheVariants.{Submit}
 use Rattle.roc_growth.specs.declared.event.Seen.TheVariants as seen

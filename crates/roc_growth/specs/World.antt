@@ -10,7 +10,7 @@ use Rattle.roc_plan.specs.Groups.{Plan}
 use Rattle.roc_audit.specs.declared.entry.Entry.{Entry}
 use Rattle.roc_audit.specs.Order.{noted}
 use Rattle.roc_audit.specs.Woven.{Look}
-use Rattle.roc_views.specs.World.{looks_in}
+use Rattle.roc_law_world.specs.World.{looks_in}
 use Rattle.roc_two_files.specs.Sealed.{Sealed, sealed_by, numbers_behind}
 use Rattle.roc_grown.specs.Server.{GrownServerState, GrownStep, first_grown_server}
 use Rattle.roc_grown.specs.Coord.{GrownCoordState, first_grown_coord}

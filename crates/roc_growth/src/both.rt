@@ -9,8 +9,8 @@ ghost use Rattle.roc_growth.specs.Run.{Stepped, IsGrownRun};
 ghost use Rattle.roc_growth.specs.Inner.Both.{AreBoth};
 
 use crate::epochs::grown_runs_are_two;
+use roc_law_world::beginnings::{first_worlds_begin, worlds_fit as worlds_of_one_fit};
 use roc_two_files::drained::drained_worlds_begin;
-use roc_views::beginnings::{first_worlds_begin, worlds_fit as worlds_of_one_fit};
 
 /// Where a server has switched the second run begins at a beginning.
 pub(crate) fn both_runs()

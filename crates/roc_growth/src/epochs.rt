@@ -8,12 +8,12 @@ ghost use Rattle.roc_growth.specs.World.{GrownWorld};
 ghost use Rattle.roc_growth.specs.Run.{Stepped, IsGrownRun};
 ghost use Rattle.roc_growth.specs.Epochs.{AreEpochs};
 
+use roc_law_world::beginnings::{first_worlds_begin, looks_fit, worlds_fit};
 use roc_two_files::drained::{
     begun_nodes_are_renewed, drained_coordinators_keep_nothing, drained_worlds_begin,
     nothing_between_is_sent,
 };
 use roc_two_files::epochs::epochs_stand_apart;
-use roc_views::beginnings::{first_worlds_begin, looks_fit, worlds_fit};
 
 /// Each run of two files is two runs of one, step by step: each node stands in that of its own file, each message of a file is in the network of its world,
 /// and history, order and looks are the first run's with the second's behind them. Nothing happens in the second before all servers have switched,

@@ -1,8 +1,8 @@
 //! What may happen in a world of two files, and what is seen of it.
 
 use roc_base::{Node, Nums, Shard, TxnId};
+use roc_law_protocol::Kept;
 use roc_msg::Reason;
-use roc_protocol::Kept;
 
 /// One event of the world. A message that is lost is one that is never delivered.
 #[derive(Drop)]

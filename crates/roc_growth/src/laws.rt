@@ -25,14 +25,14 @@ ghost use Rattle.roc_growth.specs.Witness.{witness_of, IsSubmissionAt};
 
 use crate::both::both_runs;
 use crate::epochs::grown_runs_are_two;
-use roc_two_files::drained::begun_nodes_are_renewed;
-use roc_two_files::epochs::{epochs_are_serial, epochs_stand_apart};
-use roc_views::beginnings::{
+use roc_law_world::beginnings::{
     cells_are_in_their_place as cells_of_one_are_in_their_place,
     cells_are_serial as cells_of_one_are_serial, looks_fit,
     submissions_are_kept as submissions_of_one_are_kept,
     witness_is_serial as witness_of_one_is_serial,
 };
+use roc_two_files::drained::begun_nodes_are_renewed;
+use roc_two_files::epochs::{epochs_are_serial, epochs_stand_apart};
 
 /// In every world the order of the transactions, with each answered view put in where it looked last, explains the whole history, each id run by the program of
 /// its own file; and so it does where all run by that of the last file.

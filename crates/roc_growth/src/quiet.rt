@@ -8,7 +8,7 @@ ghost use Rattle.roc_plan.specs.Groups.{Plan, is_view_of};
 ghost use Rattle.roc_plan.specs.Accepted.{IsAccepted};
 ghost use Rattle.roc_step.specs.declared.started.StartedGroup.{StartedGroup};
 ghost use Rattle.roc_audit.specs.declared.entry.Entry.TheVariants.{Submitted, Answered};
-ghost use Rattle.roc_protocol.specs.Quiet as transactions;
+ghost use Rattle.roc_law_protocol.specs.Quiet as transactions;
 ghost use Rattle.roc_epoch.specs.declared.next.Next.{Next};
 ghost use Rattle.roc_epoch.specs.Files.{last_plan, IsNextOf};
 ghost use Rattle.roc_grown.specs.Server.{GrownServerState};
@@ -17,13 +17,13 @@ ghost use Rattle.roc_growth.specs.Run.{Stepped, IsGrownRun};
 ghost use Rattle.roc_growth.specs.Quiet.{messages_of, AreDelivered, IsQuiet, IsInLastRound};
 
 use crate::both::both_runs;
-use roc_two_files::drained::answers_go_home;
-use roc_views::beginnings::{
+use roc_law_world::beginnings::{
     nothing_is_refused as nothing_of_one_is_refused,
     quiet_transactions_are_answered as quiet_transactions_of_one_are_answered,
     quiet_views_are_answered as quiet_views_of_one_are_answered,
 };
-use roc_views::beside::answered_is_decided;
+use roc_law_world::beside::answered_is_decided;
+use roc_two_files::drained::answers_go_home;
 
 /// A submitted transaction has its reply where of every message of it, and of each from which a chain of startoks in the network leads to it, a delivery counts,
 /// whatever views there are; and it is decided wherever it has a group. It is of either file.

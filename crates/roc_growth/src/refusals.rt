@@ -20,8 +20,8 @@ ghost use Rattle.roc_growth.specs.Receivers.{StandsAs};
 
 use crate::both::both_runs;
 use crate::worlds::runs_without_growth;
+use roc_law_world::beginnings::nothing_is_refused as nothing_of_one_is_refused;
 use roc_two_files::drained::nothing_between_is_sent;
-use roc_views::beginnings::nothing_is_refused as nothing_of_one_is_refused;
 
 /// A server takes each message that comes, or finds it too late, or skips it, and a coordinator ignores only stale ones; and a message is skipped just where it is
 /// of a file that is not its receiver's own.

@@ -1,8 +1,8 @@
 //! What may happen in a world of two files, and that it comes to one thing; and that it is what happens in a world of one file where no other comes.
 ghost use Rattle.std.specs.Prelude.{◌≡◌, ◌<◌, ℕ, List, Option, None, map};
 ghost use Rattle.roc_plan.specs.Groups.{Plan};
-ghost use Rattle.roc_views.specs.World.{World};
-ghost use Rattle.roc_views.specs.Run as views;
+ghost use Rattle.roc_law_world.specs.World.{World};
+ghost use Rattle.roc_law_world.specs.Run as views;
 ghost use Rattle.roc_epoch.specs.declared.next.Next.{Next};
 ghost use Rattle.roc_epoch.specs.Files.{IsNextOf};
 ghost use Rattle.roc_growth.specs.declared.event.Event.{Event};
@@ -59,7 +59,7 @@ pub fn events_have_runs()
     events_have_outcomes();
 }
 
-/// Where no other file comes, a run is one of `roc_views`, step by step: with the same nodes, network, history, order and looks, and the same was seen, decided and
+/// Where no other file comes, a run is one of `roc_law_world`, step by step: with the same nodes, network, history, order and looks, and the same was seen, decided and
 /// run. So all that holds of runs there holds of it.
 pub fn runs_without_growth()
     ensures { (plan : Plan) (coords : ℕ) (steps : List Stepped) (w : GrownWorld) → IsGrownRun plan None coords steps w

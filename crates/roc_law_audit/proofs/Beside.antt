@@ -5,11 +5,11 @@ use Rattle.roc_plan.specs.Groups.{Plan}
 use Rattle.roc_audit.specs.declared.entry.Entry.{Entry}
 use Rattle.roc_audit.specs.Woven.{without_views}
 use Rattle.roc_step.specs.State.{ServerState}
-use Rattle.roc_protocol.specs.Happens.{RanAt}
-use Rattle.roc_protocol.specs.Kept.{ran_in}
-use Rattle.roc_protocol.specs.Run as their_runs
-use Rattle.roc_views.specs.Beside.{TellsViews, AreStepsBeside, none_stepped, one_more_stepped}
-use Rattle.roc_views.specs.Run.{Stepped}
+use Rattle.roc_law_protocol.specs.Happens.{RanAt}
+use Rattle.roc_law_protocol.specs.Kept.{ran_in}
+use Rattle.roc_law_protocol.specs.Run as their_runs
+use Rattle.roc_law_world.specs.Beside.{TellsViews, AreStepsBeside, none_stepped, one_more_stepped}
+use Rattle.roc_law_world.specs.Run.{Stepped}
 use Rattle.roc_judge.specs.declared.folded.Folded.{Folded}
 use Rattle.roc_law_audit.specs.InTheWorld.{AreOfRun, SubmitsNoView, all_ran}
 

@@ -17,10 +17,10 @@ use Rattle.roc_audit.specs.declared.entry.Entry.{Entry}
 use Rattle.roc_audit.specs.declared.entry.Entry.TheVariants.{Submitted, Answered}
 use Rattle.roc_audit.specs.History.{WasSubmitted, WasAnswered, IsAnsweredBefore}
 use Rattle.roc_audit.proofs.Histories.{before_cases}
-use Rattle.roc_protocol.proofs.Changed.{get-set_here, get-set_other}
-use Rattle.roc_protocol.proofs.Firsts.{found_at}
-use Rattle.roc_views.specs.World.{World, first_world}
-use Rattle.roc_views.specs.Run.{Stepped, IsRun, at_beginning, steps_on}
+use Rattle.roc_law_protocol.proofs.Changed.{get-set_here, get-set_other}
+use Rattle.roc_law_protocol.proofs.Firsts.{found_at}
+use Rattle.roc_law_world.specs.World.{World, first_world}
+use Rattle.roc_law_world.specs.Run.{Stepped, IsRun, at_beginning, steps_on}
 use Rattle.roc_log.specs.declared.line.LogLine.{LogLine}
 use Rattle.roc_fold.specs.Told.{told_from, submissions}
 use Rattle.roc_fold.specs.Fold.{coordinating, first_core, FoldsTo, begins}

@@ -22,9 +22,9 @@ use Rattle.roc_wire.specs.Laws.{Spells}
 use Rattle.roc_wire.specs.Reading.{datagram, pair}
 use Rattle.roc_audit.specs.declared.entry.Entry.{Entry}
 use Rattle.roc_audit.specs.Order.{noted, noted_one}
-use Rattle.roc_protocol.specs.Happens.{RanAt, ran_at}
-use Rattle.roc_views.specs.World.{World, first_world}
-use Rattle.roc_views.specs.Run.{Stepped, IsRun, at_beginning, steps_on}
+use Rattle.roc_law_protocol.specs.Happens.{RanAt, ran_at}
+use Rattle.roc_law_world.specs.World.{World, first_world}
+use Rattle.roc_law_world.specs.Run.{Stepped, IsRun, at_beginning, steps_on}
 use Rattle.roc_log.specs.declared.line.LogLine.{LogLine}
 use Rattle.roc_fold.specs.Told.{told_from, submissions}
 use Rattle.roc_law_audit.specs.InTheWorld.{all_ran}

@@ -31,17 +31,17 @@ use Rattle.roc_coord.specs.Tick as coord
 use Rattle.roc_audit.specs.declared.entry.Entry.{Entry}
 use Rattle.roc_audit.specs.declared.entry.Entry.TheVariants as entry
 use Rattle.roc_audit.specs.Order.{noted}
-use Rattle.roc_protocol.specs.declared.event.Event.{Event}
-use Rattle.roc_protocol.specs.declared.event.Event.TheVariants as event
-use Rattle.roc_protocol.specs.declared.event.Kept.{Kept}
-use Rattle.roc_protocol.specs.declared.event.Seen.{Seen}
-use Rattle.roc_protocol.specs.declared.event.Seen.TheVariants as seen
-use Rattle.roc_protocol.specs.Happens.{ran_at, answer_entries}
-use Rattle.roc_protocol.specs.World.{sent_by}
-use Rattle.roc_views.proofs.Besides.{set_there}
-use Rattle.roc_views.specs.World.{World, mark_delivered}
-use Rattle.roc_views.specs.Happens.{Outcome, Submits, IsReceived, StopsIn, at_rest, unrecorded, recorded, restarted}
-use Rattle.roc_views.specs.Run.{Transition}
+use Rattle.roc_law_protocol.specs.declared.event.Event.{Event}
+use Rattle.roc_law_protocol.specs.declared.event.Event.TheVariants as event
+use Rattle.roc_law_protocol.specs.declared.event.Kept.{Kept}
+use Rattle.roc_law_protocol.specs.declared.event.Seen.{Seen}
+use Rattle.roc_law_protocol.specs.declared.event.Seen.TheVariants as seen
+use Rattle.roc_law_protocol.specs.Happens.{ran_at, answer_entries}
+use Rattle.roc_law_protocol.specs.World.{sent_by}
+use Rattle.roc_law_world.proofs.Besides.{set_there}
+use Rattle.roc_law_world.specs.World.{World, mark_delivered}
+use Rattle.roc_law_world.specs.Happens.{Outcome, Submits, IsReceived, StopsIn, at_rest, unrecorded, recorded, restarted}
+use Rattle.roc_law_world.specs.Run.{Transition}
 use Rattle.roc_log.specs.declared.line.LogLine.{LogLine}
 use Rattle.roc_log.specs.declared.line.LogLine.TheVariants.{Submit, In, Tick}
 use Rattle.roc_log.specs.Sent.{outs_logged}

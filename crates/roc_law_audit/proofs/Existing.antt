@@ -13,14 +13,14 @@ use Rattle.roc_wire.specs.declared.header.Header.{Header}
 use Rattle.roc_wire.specs.Laws.{Spells}
 use Rattle.roc_wire.specs.Reading.{datagram, pair}
 use Rattle.roc_wire.specs.Spelling.{spelling}
-use Rattle.roc_protocol.proofs.Changed.{get-front}
-use Rattle.roc_protocol.specs.declared.event.Event.{Event}
-use Rattle.roc_protocol.specs.declared.event.Event.TheVariants as event
-use Rattle.roc_protocol.specs.declared.event.Seen.{Seen}
-use Rattle.roc_protocol.specs.declared.event.Seen.TheVariants as seen
-use Rattle.roc_views.specs.World.{World, first_world}
-use Rattle.roc_views.specs.Happens.{Outcome}
-use Rattle.roc_views.specs.Run.{Stepped, Transition, IsRun, IsNodeOf, at_beginning, steps_on}
+use Rattle.roc_law_protocol.proofs.Changed.{get-front}
+use Rattle.roc_law_protocol.specs.declared.event.Event.{Event}
+use Rattle.roc_law_protocol.specs.declared.event.Event.TheVariants as event
+use Rattle.roc_law_protocol.specs.declared.event.Seen.{Seen}
+use Rattle.roc_law_protocol.specs.declared.event.Seen.TheVariants as seen
+use Rattle.roc_law_world.specs.World.{World, first_world}
+use Rattle.roc_law_world.specs.Happens.{Outcome}
+use Rattle.roc_law_world.specs.Run.{Stepped, Transition, IsRun, IsNodeOf, at_beginning, steps_on}
 use Rattle.roc_log.specs.declared.line.LogLine.{LogLine}
 use Rattle.roc_log.specs.declared.line.LogLine.TheVariants.{In}
 use Rattle.roc_log.specs.declared.line.Log.{Log}

@@ -25,10 +25,10 @@ use Rattle.roc_audit.proofs.Histories.{call_of-is, call_of-submitted, call_of-fr
 use Rattle.roc_precedence.specs.Orders.{IsLeastOrder}
 use Rattle.roc_precedence.specs.Cycles.{HasCycle}
 use Rattle.roc_precedence.proofs.Walks.{cycle_chain}
-use Rattle.roc_protocol.specs.World.{World}
-use Rattle.roc_protocol.specs.Happens.{RanAt}
-use Rattle.roc_protocol.specs.Run.{Stepped}
-use Rattle.roc_protocol.specs.Kept.{KeepsWhatRan, ConflictIn, IsYetToRun, RanBefore, ran_in}
+use Rattle.roc_law_protocol.specs.World.{World}
+use Rattle.roc_law_protocol.specs.Happens.{RanAt}
+use Rattle.roc_law_protocol.specs.Run.{Stepped}
+use Rattle.roc_law_protocol.specs.Kept.{KeepsWhatRan, ConflictIn, IsYetToRun, RanBefore, ran_in}
 use Rattle.roc_judge.specs.declared.folded.Folded.{Folded}
 use Rattle.roc_judge.specs.declared.judgement.Judgement.{Judgement}
 use Rattle.roc_judge.specs.declared.judgement.Judgement.TheVariants.{Yes}

@@ -9,9 +9,9 @@ use Rattle.roc_wire.specs.declared.header.Header.{Header}
 use Rattle.roc_audit.specs.declared.entry.Entry.{Entry}
 use Rattle.roc_fold.proofs.ToldLines.{told_append}
 use Rattle.roc_fold.specs.Told.{told_from, submissions}
-use Rattle.roc_protocol.specs.Happens.{RanAt}
-use Rattle.roc_views.specs.World.{World, Beginning, begun_world}
-use Rattle.roc_views.specs.Run.{Stepped, IsRunFrom, at_beginning, steps_on}
+use Rattle.roc_law_protocol.specs.Happens.{RanAt}
+use Rattle.roc_law_world.specs.World.{World, Beginning, begun_world}
+use Rattle.roc_law_world.specs.Run.{Stepped, IsRunFrom, at_beginning, steps_on}
 use Rattle.roc_log.specs.declared.line.LogLine.{LogLine}
 use Rattle.roc_law_audit.specs.InTheWorld.{all_ran}
 use Rattle.roc_law_audit.specs.LogsOfRuns.{node_of_event, is_step_of, LogsWhere, LogsStep, AreLoggedFrom, AreStops, AreAllLogged}

@@ -21,11 +21,11 @@ use Rattle.roc_step.specs.Reads.{first_viewing, ReadStep}
 use Rattle.roc_step.specs.Runs.{accesses_of}
 use Rattle.roc_step.specs.State.{ServerState, ServerStep, Viewing}
 use Rattle.roc_step.specs.declared.started.StartedGroup.{StartedGroup}
-use Rattle.roc_protocol.proofs.Changed.{get-set_here, get-set_other}
-use Rattle.roc_protocol.proofs.Firsts.{found_at}
-use Rattle.roc_protocol.specs.Happens.{RanAt, ran_at}
-use Rattle.roc_views.specs.World.{World, first_world}
-use Rattle.roc_views.specs.Run.{Stepped, IsRun, at_beginning, steps_on}
+use Rattle.roc_law_protocol.proofs.Changed.{get-set_here, get-set_other}
+use Rattle.roc_law_protocol.proofs.Firsts.{found_at}
+use Rattle.roc_law_protocol.specs.Happens.{RanAt, ran_at}
+use Rattle.roc_law_world.specs.World.{World, first_world}
+use Rattle.roc_law_world.specs.Run.{Stepped, IsRun, at_beginning, steps_on}
 use Rattle.roc_log.specs.declared.line.LogLine.{LogLine}
 use Rattle.roc_fold.specs.Fold.{serving, first_core, FoldsTo, begins}
 use Rattle.roc_law_audit.specs.InTheWorld.{ran_on, all_ran}

@@ -7,7 +7,7 @@ use Rattle.roc_group.specs.declared.access.Access.{Access}
 use Rattle.roc_msg.specs.declared.outbox.Ran.{Ran}
 use Rattle.roc_step.specs.declared.started.StartedGroup.{StartedGroup}
 use Rattle.roc_step.specs.Runs.{accesses_of}
-use Rattle.roc_protocol.specs.Happens.{RanAt}
+use Rattle.roc_law_protocol.specs.Happens.{RanAt}
 use Rattle.roc_judge.specs.Before.{StandsBefore}
 use Rattle.roc_law_audit.specs.InTheWorld.{ran_on}
 

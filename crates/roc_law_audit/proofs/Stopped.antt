@@ -13,7 +13,7 @@ use Rattle.roc_wire.specs.Laws.{Spells}
 use Rattle.roc_wire.specs.Reading.{datagram, pair}
 use Rattle.roc_step.specs.State.{ignored, ServerState, Viewing}
 use Rattle.roc_step.proofs.TakenNew.{nothing_new}
-use Rattle.roc_protocol.proofs.Findings.{decided_there, led_there}
+use Rattle.roc_law_protocol.proofs.Findings.{decided_there, led_there}
 use Rattle.roc_log.specs.declared.line.LogLine.{LogLine}
 use Rattle.roc_fold.specs.Told.{told_from}
 use Rattle.roc_fold.specs.Fold.{Core, serving, coordinating, brought, if_tagged, GivenByEvent, GivesAtServer, GivesMessage, Gives, Folding, behind_event, takes_event, FoldsTo, goes_on}

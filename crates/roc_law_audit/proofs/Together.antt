@@ -18,10 +18,10 @@ use Rattle.roc_wire.specs.Laws.{Spells}
 use Rattle.roc_wire.specs.Reading.{datagram, pair}
 use Rattle.roc_step.specs.Runs.{accesses_of}
 use Rattle.roc_audit.specs.declared.entry.Entry.{Entry}
-use Rattle.roc_protocol.proofs.Findings.{decided_there}
-use Rattle.roc_protocol.specs.Happens.{RanAt}
-use Rattle.roc_views.specs.World.{World, first_world}
-use Rattle.roc_views.specs.Run.{Stepped, IsRun, IsNodeOf}
+use Rattle.roc_law_protocol.proofs.Findings.{decided_there}
+use Rattle.roc_law_protocol.specs.Happens.{RanAt}
+use Rattle.roc_law_world.specs.World.{World, first_world}
+use Rattle.roc_law_world.specs.Run.{Stepped, IsRun, IsNodeOf}
 use Rattle.roc_log.specs.declared.line.LogLine.{LogLine}
 use Rattle.roc_log.specs.declared.line.Log.{Log}
 use Rattle.roc_judge.specs.declared.folded.Folded.{Folded}

@@ -14,8 +14,8 @@ use Rattle.roc_step.specs.Runs.{accesses_of}
 use Rattle.roc_audit.specs.declared.entry.Entry.{Entry}
 use Rattle.roc_audit.specs.declared.entry.Entry.TheVariants.{Submitted}
 use Rattle.roc_audit.specs.History.{IsAnsweredBefore}
-use Rattle.roc_protocol.specs.Happens.{RanAt}
-use Rattle.roc_views.specs.Run.{Stepped}
+use Rattle.roc_law_protocol.specs.Happens.{RanAt}
+use Rattle.roc_law_world.specs.Run.{Stepped}
 use Rattle.roc_judge.specs.declared.folded.Folded.{Folded}
 use Rattle.roc_judge.specs.Before as before
 

@@ -15,14 +15,14 @@ use Rattle.roc_wire.specs.Fits.{IsSpellable}
 use Rattle.roc_wire.specs.Laws.{Spells}
 use Rattle.roc_audit.specs.declared.entry.Entry.{Entry}
 use Rattle.roc_audit.specs.declared.entry.Entry.TheVariants as entry
-use Rattle.roc_protocol.specs.declared.event.Event.{Event}
-use Rattle.roc_protocol.specs.declared.event.Event.TheVariants as event
-use Rattle.roc_protocol.specs.declared.event.Kept.{Kept}
-use Rattle.roc_protocol.specs.declared.event.Seen.{Seen}
-use Rattle.roc_protocol.specs.declared.event.Seen.TheVariants as seen
-use Rattle.roc_views.specs.World.{World, first_world}
-use Rattle.roc_views.specs.Happens.{Outcome}
-use Rattle.roc_views.specs.Run.{Stepped, IsNodeOf}
+use Rattle.roc_law_protocol.specs.declared.event.Event.{Event}
+use Rattle.roc_law_protocol.specs.declared.event.Event.TheVariants as event
+use Rattle.roc_law_protocol.specs.declared.event.Kept.{Kept}
+use Rattle.roc_law_protocol.specs.declared.event.Seen.{Seen}
+use Rattle.roc_law_protocol.specs.declared.event.Seen.TheVariants as seen
+use Rattle.roc_law_world.specs.World.{World, first_world}
+use Rattle.roc_law_world.specs.Happens.{Outcome}
+use Rattle.roc_law_world.specs.Run.{Stepped, IsNodeOf}
 use Rattle.roc_log.specs.declared.line.LogLine.{LogLine}
 use Rattle.roc_log.specs.declared.line.LogLine.TheVariants.{Submit, In, Tick, Answer}
 use Rattle.roc_log.specs.declared.line.Log.{Log}

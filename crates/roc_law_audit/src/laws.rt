@@ -6,8 +6,8 @@ ghost use Rattle.roc_base.specs.declared.node.Shard.{Shard};
 ghost use Rattle.roc_base.specs.declared.node.Node.TheVariants as node;
 ghost use Rattle.roc_plan.specs.Groups.{Plan};
 ghost use Rattle.roc_plan.specs.Accepted.{IsAccepted};
-ghost use Rattle.roc_views.specs.World.{World};
-ghost use Rattle.roc_views.specs.Run.{Stepped, IsRun};
+ghost use Rattle.roc_law_world.specs.World.{World};
+ghost use Rattle.roc_law_world.specs.Run.{Stepped, IsRun};
 ghost use Rattle.roc_log.specs.declared.line.Log.{Log};
 ghost use Rattle.roc_judge.specs.declared.folded.Folded.{Folded};
 ghost use Rattle.roc_judge.specs.declared.judgement.Judgement.{Judgement};
@@ -22,11 +22,11 @@ ghost use Rattle.roc_law_audit.specs.LogsOfRuns.{AreLogsOfRun, AreFoldsOf, MayBe
 
 use roc_fold::laws::folds_are_one;
 use roc_law_plans::beginnings::accepted_plans_have_schemes_from_any_store;
-use roc_protocol::beginnings::{
+use roc_law_protocol::beginnings::{
     first_worlds_begin, ids_are_told_once, kept_orders_are_serial, order_is_serial,
     order_keeps_what_ran,
 };
-use roc_views::laws::runs_are_beside;
+use roc_law_world::laws::runs_are_beside;
 use roc_wire::laws::spelled_is_read;
 
 /// Folds that tell a run of an accepted plan in which no view was submitted are judged yes.

@@ -5,8 +5,8 @@ use Rattle.roc_base.specs.declared.node.Node.{Node}
 use Rattle.roc_base.specs.declared.node.Node.TheVariants.{Server, Coord}
 use Rattle.roc_base.specs.declared.node.Shard.{Shard}
 use Rattle.roc_report.specs.Line.{Line}
-use Rattle.roc_protocol.proofs.Changed.{get-set_cases}
-use Rattle.roc_protocol.proofs.Firsts.{found_at}
+use Rattle.roc_law_protocol.proofs.Changed.{get-set_cases}
+use Rattle.roc_law_protocol.proofs.Firsts.{found_at}
 use Rattle.roc_node.specs.NodeEvent.{NodeEvent}
 use Rattle.roc_grown_node.specs.Setting.{GrownNodeSetting}
 use Rattle.roc_grown_serve.specs.GrownRun as serve

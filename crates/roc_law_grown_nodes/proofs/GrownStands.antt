@@ -21,7 +21,7 @@ use Rattle.roc_growth.specs.declared.event.Seen.TheVariants as seen
 use Rattle.roc_growth.specs.World.{GrownWorld, mark_delivered, at_coord, at_coord_tick}
 use Rattle.roc_growth.specs.Happens.{Outcome, undecided, IsCallOf, Submits, served, coordinated, answer_entries, IsReceived, Happens}
 use Rattle.roc_growth.specs.Run.{Stepped, IsGrownRun, steps_on}
-use Rattle.roc_views.proofs.Comings.{stands_at}
+use Rattle.roc_law_world.proofs.Comings.{stands_at}
 use Rattle.roc_law_grown_nodes.specs.GrownInterleaved.{WasSentAs}
 
 module _ (plan : Plan) (next : Next) where

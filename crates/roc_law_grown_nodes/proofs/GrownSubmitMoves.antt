@@ -19,8 +19,8 @@ use Rattle.roc_coord.specs.State.{CoordState}
 use Rattle.roc_coord.specs.Submit.{next_id, after_submit, Submission}
 use Rattle.roc_audit.specs.declared.entry.Entry.{Entry}
 use Rattle.roc_audit.specs.declared.entry.Entry.TheVariants.{Submitted}
-use Rattle.roc_protocol.proofs.Changed.{get-set_here}
-use Rattle.roc_protocol.proofs.SubmissionEnds.{IsAnySubmission, any_submission_is, unknown, miscounted, spent, busy, taken}
+use Rattle.roc_law_protocol.proofs.Changed.{get-set_here}
+use Rattle.roc_law_protocol.proofs.SubmissionEnds.{IsAnySubmission, any_submission_is, unknown, miscounted, spent, busy, taken}
 use Rattle.roc_epoch.specs.declared.next.Next.{Next}
 use Rattle.roc_epoch.specs.Grown.{IsGrownFrom}
 use Rattle.roc_epoch.specs.Files.{own_plan}
@@ -34,7 +34,7 @@ use Rattle.roc_grown_node.specs.Setting.{GrownNodeSetting}
 use Rattle.roc_grown_submit.specs.GrownCoordRun.{GrownCoordNodeState, GrownSubmissions, none_grown_submitted, with_drain, is_first_answered, drained_first, grown_submit_lines, grown_submitted_call}
 use Rattle.roc_grown_submit.specs.GrownCoordRun.{grown_submitted, grown_accepts_call, grown_accepts, grown_submitted_all, submitted_first, of_later, submitted_later, grown_submissions_of}
 use Rattle.roc_grown_submit.specs.GrownCoordRun.{grown_submitted_node, plan_of_file}
-use Rattle.roc_views.proofs.Besides.{set_there}
+use Rattle.roc_law_world.proofs.Besides.{set_there}
 use Rattle.roc_law_nodes.proofs.NodeMoves.{line_in}
 use Rattle.roc_law_nodes.proofs.SubmitMoves.{set_again}
 use Rattle.roc_law_grown_nodes.specs.GrownInterleaved.{AllGrownSettings, grown_setting_at, between, within, AllGrownNodes, grown_coord_moved}

@@ -9,7 +9,7 @@ use Rattle.roc_base.specs.declared.node.Shard.{Shard}
 use Rattle.roc_io.specs.declared.link.Addr.{Addr}
 use Rattle.roc_msg.specs.declared.msg.Msg.{Msg}
 use Rattle.roc_plan.specs.Groups.{Plan}
-use Rattle.roc_protocol.specs.World.{sent_by}
+use Rattle.roc_law_protocol.specs.World.{sent_by}
 use Rattle.roc_report.specs.Line.{Line}
 use Rattle.roc_sched.specs.declared.line.Request.{Request}
 use Rattle.roc_epoch.specs.declared.file.File.{File}

@@ -7,8 +7,8 @@ use Rattle.roc_sequence.specs.Lists.{Has}
 use Rattle.roc_base.specs.declared.node.Shard.{Shard}
 use Rattle.roc_base.specs.declared.node.Node.{Node}
 use Rattle.roc_base.specs.declared.node.Node.TheVariants.{Server, Coord}
-use Rattle.roc_views.specs.World.{World}
-use Rattle.roc_views.specs.Run.{Stepped, IsNodeOf}
+use Rattle.roc_law_world.specs.World.{World}
+use Rattle.roc_law_world.specs.Run.{Stepped, IsNodeOf}
 use Rattle.roc_log.specs.declared.line.Log.{Log}
 use Rattle.roc_node_serve.specs.ServerRun.{ServerNodeState, IsServerRun}
 use Rattle.roc_law_audit.proofs.Decided.{within_there}

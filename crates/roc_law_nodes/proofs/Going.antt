@@ -11,13 +11,13 @@ use Rattle.roc_msg.specs.declared.msg.Envelope.{Envelope}
 use Rattle.roc_step.specs.Reads.{AnswersReads, ReadStep}
 use Rattle.roc_step.specs.State.{ServerState, ServerStep, Viewing}
 use Rattle.roc_step.specs.Step.{Handles}
-use Rattle.roc_protocol.specs.declared.event.Event.{Event}
-use Rattle.roc_protocol.specs.declared.event.Event.TheVariants.{Deliver}
-use Rattle.roc_views.specs.Fits.{FitsWorld}
-use Rattle.roc_views.specs.Happens.{Outcome, Happens, IsReceived}
-use Rattle.roc_views.specs.Run.{Stepped, IsRun, IsEventOf}
-use Rattle.roc_views.specs.World.{World, mark_delivered}
-use Rattle.roc_views.proofs.Comings.{stands_at}
+use Rattle.roc_law_protocol.specs.declared.event.Event.{Event}
+use Rattle.roc_law_protocol.specs.declared.event.Event.TheVariants.{Deliver}
+use Rattle.roc_law_world.specs.Fits.{FitsWorld}
+use Rattle.roc_law_world.specs.Happens.{Outcome, Happens, IsReceived}
+use Rattle.roc_law_world.specs.Run.{Stepped, IsRun, IsEventOf}
+use Rattle.roc_law_world.specs.World.{World, mark_delivered}
+use Rattle.roc_law_world.proofs.Comings.{stands_at}
 use Rattle.roc_node.specs.Judgement.{judged}
 use Rattle.roc_node.specs.declared.judging.Judged.{Judged}
 use Rattle.roc_node.specs.declared.judging.Judged.TheVariants.{Delivery, Skipped}

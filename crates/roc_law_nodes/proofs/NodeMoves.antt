@@ -24,8 +24,8 @@ use Rattle.roc_coord.specs.declared.handled.Handled.TheVariants.{Done, Answered,
 use Rattle.roc_coord.specs.State.{CoordState, CoordStep, ignored}
 use Rattle.roc_coord.specs.Step.{after_message}
 use Rattle.roc_audit.specs.declared.entry.Entry.{Entry}
-use Rattle.roc_protocol.specs.Happens.{answer_entries}
-use Rattle.roc_protocol.specs.World.{sent_by}
+use Rattle.roc_law_protocol.specs.Happens.{answer_entries}
+use Rattle.roc_law_protocol.specs.World.{sent_by}
 use Rattle.roc_node.specs.Judgement.{judged}
 use Rattle.roc_node.specs.declared.judging.Judged.{Judged}
 use Rattle.roc_node.specs.declared.judging.Judged.TheVariants.{Delivery, Skipped}
@@ -37,7 +37,7 @@ use Rattle.roc_law_nodes.specs.Turns.{judged_brings, turn_brings, is_for_core}
 use Rattle.roc_law_nodes.specs.Interleaved.{AllSettings, setting_at, CoordPlace, between, node_at, AllNodes, server_moved, coord_moved, IsMessageSent, IsJudgedSent, IsCaused}
 use Rattle.roc_law_nodes.proofs.ServerFolds.{of_message}
 use Rattle.roc_law_nodes.proofs.SideBySide.{all_gained}
-use Rattle.roc_views.proofs.Besides.{set_there}
+use Rattle.roc_law_world.proofs.Besides.{set_there}
 use Rattle.roc_law_nodes.proofs.WorldMoves.{with_own, WorldStands, stands_as, server_delivers, server_ticks, coord_delivers, coord_ticks}
 
 -- ---- lists

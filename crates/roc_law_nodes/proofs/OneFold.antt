@@ -9,7 +9,7 @@ use Rattle.roc_step.specs.Restarts.{without_reads, cut_short, cut_reads}
 use Rattle.roc_step.specs.State.{ServerState, ServerStep, Viewing}
 use Rattle.roc_step.specs.Step.{Handles, tick_sends}
 use Rattle.roc_coord.specs.State.{CoordState}
-use Rattle.roc_protocol.specs.declared.event.Kept.TheVariants.{Lost, Sent}
+use Rattle.roc_law_protocol.specs.declared.event.Kept.TheVariants.{Lost, Sent}
 use Rattle.roc_law_nodes.specs.Own.{OwnEvent, delivered, ticked, requested, stopped}
 use Rattle.roc_law_nodes.specs.Fold.{ServerSteps, IsServerFoldFrom, server_begun, server_goes_on, CoordSteps, IsCoordFold, coord_begun, coord_goes_on}
 

@@ -9,10 +9,10 @@ use Rattle.roc_base.specs.Node.{is_node}
 use Rattle.roc_msg.specs.declared.msg.Envelope.{Envelope}
 use Rattle.roc_msg.specs.declared.outbox.Outgoing.{Outgoing}
 use Rattle.roc_plan.specs.Groups.{Plan}
-use Rattle.roc_protocol.specs.declared.event.Event.{Event}
-use Rattle.roc_protocol.specs.World.{sent_by}
-use Rattle.roc_views.specs.World.{World}
-use Rattle.roc_views.specs.Run.{Stepped, IsRun, at_beginning, steps_on}
+use Rattle.roc_law_protocol.specs.declared.event.Event.{Event}
+use Rattle.roc_law_protocol.specs.World.{sent_by}
+use Rattle.roc_law_world.specs.World.{World}
+use Rattle.roc_law_world.specs.Run.{Stepped, IsRun, at_beginning, steps_on}
 use Rattle.roc_law_nodes.specs.Own.{OwnEvent, own_step, own_events, messages_of}
 use Rattle.roc_law_nodes.proofs.Stepping.{IsStepAt, IsStep, no_step, server_step, coord_step, stepping}
 

@@ -8,7 +8,7 @@ use Rattle.roc_step.specs.Reads.{first_viewing, AnswersReads, ReadStep}
 use Rattle.roc_step.specs.Restarts.{without_reads, recorded, cut_short, cut_reads, StandsFor, nothing_kept}
 use Rattle.roc_step.specs.State.{ServerState, ServerStep, Viewing}
 use Rattle.roc_step.specs.Step as server
-use Rattle.roc_protocol.specs.declared.event.Kept.TheVariants.{Lost, Sent}
+use Rattle.roc_law_protocol.specs.declared.event.Kept.TheVariants.{Lost, Sent}
 use Rattle.roc_law_nodes.specs.Own.{OwnEvent, delivered, ticked, requested, stopped}
 use Rattle.roc_law_nodes.specs.Fold.{ServerSteps, IsServerFold, server_begun, server_goes_on}
 use Rattle.roc_law_nodes.specs.Records.{IsRecordedFold, no_record, by_message, by_tick, by_stop, by_loss, by_last}

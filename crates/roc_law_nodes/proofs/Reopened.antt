@@ -11,8 +11,8 @@ use Rattle.roc_step.specs.Reads.{first_viewing}
 use Rattle.roc_step.specs.Restarts.{cut_short, cut_reads, IsKeptFold, StandsFor}
 use Rattle.roc_step.specs.State.{ServerState, Viewing}
 use Rattle.roc_step.specs.Step.{tick_sends}
-use Rattle.roc_protocol.specs.declared.event.Kept.{Kept}
-use Rattle.roc_protocol.specs.declared.event.Kept.TheVariants.{Lost, Sent}
+use Rattle.roc_law_protocol.specs.declared.event.Kept.{Kept}
+use Rattle.roc_law_protocol.specs.declared.event.Kept.TheVariants.{Lost, Sent}
 use Rattle.roc_law_nodes.specs.Own.{OwnEvent, stopped}
 use Rattle.roc_law_nodes.specs.Fold.{ServerSteps, IsServerFoldFrom, IsServerFold, server_begun, server_goes_on}
 use Rattle.roc_law_nodes.specs.Turns.{is_for_core}

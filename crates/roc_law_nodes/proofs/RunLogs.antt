@@ -21,15 +21,15 @@ use Rattle.roc_step.specs.Reads.{first_viewing}
 use Rattle.roc_step.specs.State.{ServerState, Viewing}
 use Rattle.roc_coord.specs.State.{first_coord, CoordState}
 use Rattle.roc_coord.specs.Submit.{after_submit}
-use Rattle.roc_protocol.proofs.Changed.{get-set_here, get-set_other}
-use Rattle.roc_protocol.proofs.Firsts.{found_at}
-use Rattle.roc_protocol.specs.declared.event.Event.{Event}
-use Rattle.roc_protocol.specs.declared.event.Event.TheVariants as event
-use Rattle.roc_protocol.specs.declared.event.Seen.{Seen}
-use Rattle.roc_protocol.specs.declared.event.Seen.TheVariants as seen
-use Rattle.roc_views.specs.World.{World, first_world}
-use Rattle.roc_views.specs.Happens.{Outcome, Submits}
-use Rattle.roc_views.specs.Run.{Stepped, Transition, IsRun, at_beginning, steps_on}
+use Rattle.roc_law_protocol.proofs.Changed.{get-set_here, get-set_other}
+use Rattle.roc_law_protocol.proofs.Firsts.{found_at}
+use Rattle.roc_law_protocol.specs.declared.event.Event.{Event}
+use Rattle.roc_law_protocol.specs.declared.event.Event.TheVariants as event
+use Rattle.roc_law_protocol.specs.declared.event.Seen.{Seen}
+use Rattle.roc_law_protocol.specs.declared.event.Seen.TheVariants as seen
+use Rattle.roc_law_world.specs.World.{World, first_world}
+use Rattle.roc_law_world.specs.Happens.{Outcome, Submits}
+use Rattle.roc_law_world.specs.Run.{Stepped, Transition, IsRun, at_beginning, steps_on}
 use Rattle.roc_log.specs.declared.line.LogLine.{LogLine}
 use Rattle.roc_log.specs.declared.line.LogLine.TheVariants.{Submit}
 use Rattle.roc_fold.specs.Fold.{Core, serving, coordinating, first_core, GivenByEvent, Gives}

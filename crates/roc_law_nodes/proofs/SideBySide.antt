@@ -15,9 +15,9 @@ use Rattle.roc_msg.specs.declared.msg.Msg.{Msg}
 use Rattle.roc_msg.specs.declared.msg.Envelope.{Envelope}
 use Rattle.roc_msg.specs.declared.outbox.Outgoing.{Outgoing}
 use Rattle.roc_report.specs.Line.{Line}
-use Rattle.roc_protocol.specs.World.{sent_by}
-use Rattle.roc_protocol.proofs.Changed.{get-set_cases}
-use Rattle.roc_protocol.proofs.Firsts.{found_at}
+use Rattle.roc_law_protocol.specs.World.{sent_by}
+use Rattle.roc_law_protocol.proofs.Changed.{get-set_cases}
+use Rattle.roc_law_protocol.proofs.Firsts.{found_at}
 use Rattle.roc_step.specs.Step.{tick_sends}
 use Rattle.roc_node.specs.Judgement.{judged}
 use Rattle.roc_node.specs.declared.judging.Judged.{Judged}

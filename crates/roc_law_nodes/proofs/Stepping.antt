@@ -21,16 +21,16 @@ use Rattle.roc_coord.specs.Step.{after_message}
 use Rattle.roc_coord.specs.Submit.{Submission, refusal_of, refused_or_accepted, next_id, new_transaction, accepted, accepted_view, after_submit}
 use Rattle.roc_readonly.specs.Round.{first_round}
 use Rattle.roc_coord.specs.Tick as coord
-use Rattle.roc_protocol.specs.declared.event.Event.{Event}
-use Rattle.roc_protocol.specs.declared.event.Event.TheVariants.{Submit, Deliver, Tick, Stop}
-use Rattle.roc_protocol.specs.declared.event.Kept.{Kept}
-use Rattle.roc_protocol.specs.declared.event.Kept.TheVariants.{Lost, Sent}
-use Rattle.roc_protocol.specs.World.{sent_by}
-use Rattle.roc_protocol.proofs.Changed.{get-front}
-use Rattle.roc_views.proofs.Besides.{set_there}
-use Rattle.roc_views.specs.World.{World, mark_delivered}
-use Rattle.roc_views.specs.Happens.{Outcome, IsSubmissionOf, IsReceived, no_reads, StopsIn, at_rest, unrecorded, recorded, restarted}
-use Rattle.roc_views.specs.Run.{Transition}
+use Rattle.roc_law_protocol.specs.declared.event.Event.{Event}
+use Rattle.roc_law_protocol.specs.declared.event.Event.TheVariants.{Submit, Deliver, Tick, Stop}
+use Rattle.roc_law_protocol.specs.declared.event.Kept.{Kept}
+use Rattle.roc_law_protocol.specs.declared.event.Kept.TheVariants.{Lost, Sent}
+use Rattle.roc_law_protocol.specs.World.{sent_by}
+use Rattle.roc_law_protocol.proofs.Changed.{get-front}
+use Rattle.roc_law_world.proofs.Besides.{set_there}
+use Rattle.roc_law_world.specs.World.{World, mark_delivered}
+use Rattle.roc_law_world.specs.Happens.{Outcome, IsSubmissionOf, IsReceived, no_reads, StopsIn, at_rest, unrecorded, recorded, restarted}
+use Rattle.roc_law_world.specs.Run.{Transition}
 use Rattle.roc_law_nodes.specs.Own.{OwnEvent, delivered, ticked, requested, stopped, stopped_at, heard_by, own_step}
 use Rattle.roc_law_nodes.specs.Fold.{ServerSteps, CoordSteps}
 

@@ -21,8 +21,8 @@ use Rattle.roc_coord.specs.State.{CoordState}
 use Rattle.roc_coord.specs.Submit.{after_submit}
 use Rattle.roc_audit.specs.declared.entry.Entry.{Entry}
 use Rattle.roc_audit.specs.declared.entry.Entry.TheVariants.{Submitted}
-use Rattle.roc_protocol.specs.World.{sent_by}
-use Rattle.roc_protocol.proofs.Changed.{get-set_here}
+use Rattle.roc_law_protocol.specs.World.{sent_by}
+use Rattle.roc_law_protocol.proofs.Changed.{get-set_here}
 use Rattle.roc_node.specs.NodeEvent.{NodeSetting}
 use Rattle.roc_node_submit.specs.CoordRun.{CoordNodeState, Submissions, submit_lines, submitted_call, submitted, accepts_call, accepts, submitted_all, none_submitted, submissions_of, coord_submitted}
 use Rattle.roc_law_nodes.specs.Own.{OwnEvent, requested}
@@ -30,7 +30,7 @@ use Rattle.roc_law_nodes.specs.Turns.{own_request, own_requests, next_requests}
 use Rattle.roc_law_nodes.specs.Interleaved.{AllSettings, setting_at, between, within, AllNodes, coord_moved}
 use Rattle.roc_law_nodes.proofs.CoordFolds.{taken_are}
 use Rattle.roc_law_nodes.proofs.NodeMoves.{line_in, none_own, Mirrors, core_there, coord_as}
-use Rattle.roc_views.proofs.Besides.{set_there}
+use Rattle.roc_law_world.proofs.Besides.{set_there}
 use Rattle.roc_law_nodes.proofs.WorldMoves.{with_own, WorldStands, stands_as, coord_requests}
 
 -- ---- lists

@@ -6,8 +6,8 @@ use Rattle.roc_msg.specs.declared.msg.Msg.{Msg}
 use Rattle.roc_wire.specs.declared.header.Header.{Header}
 use Rattle.roc_wire.specs.Laws.{Spells}
 use Rattle.roc_wire.specs.Reading.{datagram, pair}
-use Rattle.roc_views.specs.World.{World, first_world}
-use Rattle.roc_views.specs.Run.{Stepped, IsRun}
+use Rattle.roc_law_world.specs.World.{World, first_world}
+use Rattle.roc_law_world.specs.Run.{Stepped, IsRun}
 use Rattle.roc_log.specs.declared.line.LogLine.{LogLine}
 use Rattle.roc_fold.specs.Fold.{Core, first_core}
 use Rattle.roc_node.specs.NodeEvent.{NodeSetting}

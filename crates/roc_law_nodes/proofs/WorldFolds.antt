@@ -12,10 +12,10 @@ use Rattle.roc_step.specs.First.{first_server}
 use Rattle.roc_step.specs.Reads.{first_viewing}
 use Rattle.roc_step.specs.State.{ServerState, Viewing}
 use Rattle.roc_coord.specs.State.{first_coord, CoordState}
-use Rattle.roc_views.specs.World.{World}
-use Rattle.roc_views.specs.Run.{Stepped, IsRun, at_beginning, steps_on}
-use Rattle.roc_protocol.proofs.Changed.{get-set_here, get-set_other}
-use Rattle.roc_protocol.proofs.Firsts.{found_at}
+use Rattle.roc_law_world.specs.World.{World}
+use Rattle.roc_law_world.specs.Run.{Stepped, IsRun, at_beginning, steps_on}
+use Rattle.roc_law_protocol.proofs.Changed.{get-set_here, get-set_other}
+use Rattle.roc_law_protocol.proofs.Firsts.{found_at}
 use Rattle.roc_law_audit.proofs.ServerLogs.{found_too}
 use Rattle.roc_law_nodes.specs.Own.{OwnEvent, own_events, messages_of}
 use Rattle.roc_law_nodes.specs.Fold.{ServerSteps, IsServerFoldFrom, IsServerFold, server_begun, server_goes_on, CoordSteps, IsCoordFold, coord_begun, coord_goes_on}

@@ -20,16 +20,16 @@ use Rattle.roc_coord.specs.Submit.{after_submit}
 use Rattle.roc_coord.specs.Tick as coord
 use Rattle.roc_audit.specs.declared.entry.Entry.{Entry}
 use Rattle.roc_audit.specs.declared.entry.Entry.TheVariants as entry
-use Rattle.roc_protocol.specs.declared.event.Event.{Event}
-use Rattle.roc_protocol.specs.declared.event.Event.TheVariants.{Submit, Deliver, Tick}
-use Rattle.roc_protocol.specs.declared.event.Seen.TheVariants as seen
-use Rattle.roc_protocol.specs.Happens.{answer_entries}
-use Rattle.roc_protocol.specs.World.{sent_by}
-use Rattle.roc_protocol.proofs.Changed.{get-front}
-use Rattle.roc_views.proofs.Comings.{stands_at}
-use Rattle.roc_views.specs.World.{World, mark_delivered, at_coord, at_coord_tick}
-use Rattle.roc_views.specs.Happens.{Outcome, undecided, Submits, served, coordinated, IsReceived, Happens}
-use Rattle.roc_views.specs.Run.{Stepped, IsRun, steps_on}
+use Rattle.roc_law_protocol.specs.declared.event.Event.{Event}
+use Rattle.roc_law_protocol.specs.declared.event.Event.TheVariants.{Submit, Deliver, Tick}
+use Rattle.roc_law_protocol.specs.declared.event.Seen.TheVariants as seen
+use Rattle.roc_law_protocol.specs.Happens.{answer_entries}
+use Rattle.roc_law_protocol.specs.World.{sent_by}
+use Rattle.roc_law_protocol.proofs.Changed.{get-front}
+use Rattle.roc_law_world.proofs.Comings.{stands_at}
+use Rattle.roc_law_world.specs.World.{World, mark_delivered, at_coord, at_coord_tick}
+use Rattle.roc_law_world.specs.Happens.{Outcome, undecided, Submits, served, coordinated, IsReceived, Happens}
+use Rattle.roc_law_world.specs.Run.{Stepped, IsRun, steps_on}
 use Rattle.roc_law_nodes.specs.Interleaved.{WasSentTo}
 use Rattle.roc_law_nodes.specs.Own.{OwnEvent, delivered, ticked, requested, heard_by, own_events}
 use Rattle.roc_law_nodes.proofs.Owned.{gains_here, gains_elsewhere}

@@ -10,10 +10,10 @@ use Rattle.roc_base.specs.declared.node.Shard.{Shard}
 use Rattle.roc_program.specs.LookUps.{procedure_named}
 use Rattle.roc_plan.specs.Groups.{Plan}
 use Rattle.roc_sched.specs.declared.line.Request.{Request}
-use Rattle.roc_protocol.proofs.Changed.{get-set_cases}
-use Rattle.roc_protocol.proofs.Firsts.{found_at}
-use Rattle.roc_views.specs.Run.{Stepped, at_beginning}
-use Rattle.roc_views.specs.World.{World, first_world}
+use Rattle.roc_law_protocol.proofs.Changed.{get-set_cases}
+use Rattle.roc_law_protocol.proofs.Firsts.{found_at}
+use Rattle.roc_law_world.specs.Run.{Stepped, at_beginning}
+use Rattle.roc_law_world.specs.World.{World, first_world}
 use Rattle.roc_node.specs.NodeEvent.{NodeEvent}
 use Rattle.roc_node_submit.specs.CoordRun.{CoordNodeState, first_coord_node_state, coord_submitted, coord_took, IsCoordRun}
 use Rattle.roc_law_nodes.specs.Own.{OwnEvent, requested}

@@ -9,8 +9,8 @@ use Rattle.roc_io.specs.Packet.{Packet}
 use Rattle.roc_plan.specs.Groups.{Plan}
 use Rattle.roc_sched.specs.declared.line.Request.{Request}
 use Rattle.roc_wire.specs.Reading.{IsBytes}
-use Rattle.roc_views.specs.World.{World}
-use Rattle.roc_views.specs.Run.{Stepped, IsNodeOf}
+use Rattle.roc_law_world.specs.World.{World}
+use Rattle.roc_law_world.specs.Run.{Stepped, IsNodeOf}
 use Rattle.roc_log.specs.declared.line.LogLine.{LogLine}
 use Rattle.roc_log.specs.declared.line.Log.{Log}
 use Rattle.roc_node.specs.NodeEvent.{NodeEvent, took, node_setting}

@@ -7,10 +7,10 @@ use Rattle.roc_base.specs.Node.{is_node}
 use Rattle.roc_msg.specs.declared.msg.Msg.{Msg}
 use Rattle.roc_msg.specs.declared.msg.Envelope.{Envelope}
 use Rattle.roc_msg.specs.declared.outbox.Outgoing.{Outgoing}
-use Rattle.roc_protocol.specs.declared.event.Event.{Event}
-use Rattle.roc_protocol.specs.declared.event.Event.TheVariants.{Submit, Deliver, Tick, Stop}
-use Rattle.roc_protocol.specs.declared.event.Kept.{Kept}
-use Rattle.roc_views.specs.Run.{Stepped}
+use Rattle.roc_law_protocol.specs.declared.event.Event.{Event}
+use Rattle.roc_law_protocol.specs.declared.event.Event.TheVariants.{Submit, Deliver, Tick, Stop}
+use Rattle.roc_law_protocol.specs.declared.event.Kept.{Kept}
+use Rattle.roc_law_world.specs.Run.{Stepped}
 
 -- what makes a node's core take a step: a message comes to it, time has passed for it, a call of a procedure is submitted to it, or it stops, at a
 -- message or at none, and starts again

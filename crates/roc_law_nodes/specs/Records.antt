@@ -8,7 +8,7 @@ use Rattle.roc_step.specs.Reads.{first_viewing, AnswersReads, ReadStep}
 use Rattle.roc_step.specs.Restarts.{without_reads, recorded}
 use Rattle.roc_step.specs.State.{ServerState, ServerStep, Viewing}
 use Rattle.roc_step.specs.Step as server
-use Rattle.roc_protocol.specs.declared.event.Kept.TheVariants.{Lost, Sent}
+use Rattle.roc_law_protocol.specs.declared.event.Kept.TheVariants.{Lost, Sent}
 use Rattle.roc_law_nodes.specs.Own.{OwnEvent, delivered, ticked, stopped}
 
 -- the own events, one by one, lead a shard's server from its first state to this one, in which it keeps this for views, and it has a record of

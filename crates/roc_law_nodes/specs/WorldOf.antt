@@ -4,8 +4,8 @@ use Rattle.roc_base.specs.declared.node.Node.TheVariants.{Server, Coord}
 use Rattle.roc_base.specs.declared.node.Shard.{Shard}
 use Rattle.roc_replay.specs.Readback.{history_in}
 use Rattle.roc_sched.specs.declared.line.Request.{Request}
-use Rattle.roc_views.specs.Run.{Stepped, IsRun}
-use Rattle.roc_views.specs.World.{World}
+use Rattle.roc_law_world.specs.Run.{Stepped, IsRun}
+use Rattle.roc_law_world.specs.World.{World}
 use Rattle.roc_node.specs.NodeEvent.{NodeEvent, NodeSetting}
 use Rattle.roc_node_submit.specs.CoordRun.{first_coord_node_state}
 use Rattle.roc_law_nodes.specs.Own.{OwnEvent, own_events}

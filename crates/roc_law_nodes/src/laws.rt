@@ -18,9 +18,9 @@ ghost use Rattle.roc_node.specs.NodeEvent.{NodeEvent, took, NodeSetting};
 ghost use Rattle.roc_node_serve.specs.ServerRun.{ServerNodeState, IsServerRun, IsServerRunFrom, AfterTurn, opened_node};
 ghost use Rattle.roc_plan.specs.Accepted.{IsAccepted};
 ghost use Rattle.roc_plan.specs.Groups.{Plan};
-ghost use Rattle.roc_protocol.specs.declared.event.Kept.{Kept};
-ghost use Rattle.roc_views.specs.Run.{Stepped, IsRun};
-ghost use Rattle.roc_views.specs.World.{World};
+ghost use Rattle.roc_law_protocol.specs.declared.event.Kept.{Kept};
+ghost use Rattle.roc_law_world.specs.Run.{Stepped, IsRun};
+ghost use Rattle.roc_law_world.specs.World.{World};
 ghost use Rattle.roc_law_nodes.specs.Fold.{IsServerFold, IsCoordFold};
 ghost use Rattle.roc_law_nodes.specs.Interleaved.{AllSettings, AllNodes, Move, CoordPlace, AreInterleaved, WasSentTo, IsCaused, IsCoordAt, setting_at, node_at, events_at, lines_by};
 ghost use Rattle.roc_law_nodes.specs.Records.{IsRecordedFold};
@@ -36,11 +36,11 @@ ghost use Rattle.roc_wire.specs.Reading.{IsBytes};
 
 use roc_component::laws::{order_exists, order_is_one};
 use roc_kept::laws::opened_or_refused;
+use roc_law_world::beginnings::{first_worlds_begin, witness_is_serial, worlds_fit};
+use roc_law_world::worlds::events_have_outcomes;
 use roc_step::laws::{
     kept_fold_is_one, read_step_is_one, records_stand, restarts_stand, step_is_one,
 };
-use roc_views::beginnings::{first_worlds_begin, witness_is_serial, worlds_fit};
-use roc_views::worlds::events_have_outcomes;
 use roc_wire::laws::spelled_is_read;
 
 /// In every run of the world, the state of each node and the messages that the world has from it, in the order in which it sent them,

@@ -1,4 +1,4 @@
-//! What people run is what the laws speak of: the world of `roc_views`, in which all nodes take their steps, views among what is submitted, and the
+//! What people run is what the laws speak of: the world of `roc_law_world`, in which all nodes take their steps, views among what is submitted, and the
 //! nodes of `roc_node_serve` and `roc_node_submit`, each of which leads the datagrams of its link through its own core. No code
 //! stands here but [`laws`] and [`logs`].
 //!

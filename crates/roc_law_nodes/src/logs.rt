@@ -22,8 +22,8 @@ ghost use Rattle.roc_plan.specs.Accepted.{IsAccepted};
 ghost use Rattle.roc_plan.specs.Groups.{Plan};
 ghost use Rattle.roc_replay.specs.Readback.{history_in};
 ghost use Rattle.roc_sched.specs.declared.line.Request.{Request};
-ghost use Rattle.roc_views.specs.Run.{Stepped, IsRun};
-ghost use Rattle.roc_views.specs.World.{World, first_world};
+ghost use Rattle.roc_law_world.specs.Run.{Stepped, IsRun};
+ghost use Rattle.roc_law_world.specs.World.{World, first_world};
 
 use crate::laws::{interleaved_nodes_are_a_world, interleaved_runs_are_runs};
 use roc_law_audit::laws::honest_verdicts_are_yes;

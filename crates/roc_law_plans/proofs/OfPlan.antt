@@ -25,7 +25,7 @@ use Rattle.roc_plan.specs.Groups.{Plan, procedure_of, groups_of, group_of, input
 use Rattle.roc_plan.specs.Accepted.{IsAccepted}
 use Rattle.roc_group.specs.GroupRun.{GroupCall, group_run, begin}
 use Rattle.roc_group.proofs.Grouped.{one_group, group_rising, in_a_group, is_piece}
-use Rattle.roc_protocol.specs.PlanAssumptions.{IsSchemeOf}
+use Rattle.roc_law_protocol.specs.PlanAssumptions.{IsSchemeOf}
 use Rattle.roc_law_plans.specs.Scheme.{scheme_of, AreOrders}
 
 -- ---- shards

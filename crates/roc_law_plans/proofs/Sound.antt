@@ -20,8 +20,8 @@ use Rattle.roc_group.specs.Accesses.{do_conflict, meets, do_write, AgreeOnReads,
 use Rattle.roc_group.specs.GroupRun.{GroupCall, group_pieces, begin, group_run, group_uses}
 use Rattle.roc_law_orders.specs.Behaviour.{TxnGroup, is_group_number, is_used, is_written, Meet, DoesSame}
 use Rattle.roc_law_log.specs.Scheme.{IsSoundScheme}
-use Rattle.roc_protocol.specs.PlanAssumptions.{called, use_of}
-use Rattle.roc_protocol.proofs.Meets.{of_meet}
+use Rattle.roc_law_protocol.specs.PlanAssumptions.{called, use_of}
+use Rattle.roc_law_protocol.proofs.Meets.{of_meet}
 use Rattle.roc_law_plans.specs.Scheme.{scheme_of, AreOrders, AreCalls}
 
 agree : (s t : Store) (uses : List Access) → ((x : Cell) → is_used x (map use_of uses) ≡ true → read s x ≡ read t x) → AgreeOnReads s t uses

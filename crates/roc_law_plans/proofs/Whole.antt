@@ -28,7 +28,7 @@ use Rattle.roc_law_groups.specs.GroupsRun as turn
 use Rattle.roc_law_groups.specs.GroupsRun.{Given, bound_by, taken, DoAs}
 use Rattle.roc_law_groups.proofs.GroupRuns.{bound_before}
 use Rattle.roc_audit.specs.Witness.{reply_in}
-use Rattle.roc_protocol.specs.PlanAssumptions.{picked, IsWholeReplyFrom}
+use Rattle.roc_law_protocol.specs.PlanAssumptions.{picked, IsWholeReplyFrom}
 use Rattle.roc_law_plans.specs.Scheme.{scheme_of, AreOrders}
 
 -- ---- what groups gave, in both forms

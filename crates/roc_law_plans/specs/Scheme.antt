@@ -6,7 +6,7 @@ use Rattle.roc_plan.specs.Groups.{Plan, inputs_of, is_immediate_of, shard_of, gr
 use Rattle.roc_plan.specs.Turns.{AreInTurn}
 use Rattle.roc_group.specs.GroupRun.{group_run, group_uses, bound_by_run}
 use Rattle.roc_law_log.specs.Scheme.{Scheme}
-use Rattle.roc_protocol.specs.PlanAssumptions.{called, picked, use_of}
+use Rattle.roc_law_protocol.specs.PlanAssumptions.{called, picked, use_of}
 
 -- what a group of a transaction does, where each transaction calls what was asked, and the groups of each procedure run in these orders
 abbrev pub scheme_of : Plan → (orders : ℕ → List ℕ) → (TxnId → whole.Call) → Scheme

@@ -1,4 +1,4 @@
-//! Accepted plans from any beginning of a run: their schemes have what every law of `roc_protocol::beginnings` asks for, whatever the cells
+//! Accepted plans from any beginning of a run: their schemes have what every law of `roc_law_protocol::beginnings` asks for, whatever the cells
 //! hold there.
 ghost use Rattle.std.specs.Prelude.{◌≡◌, ℕ, ℤ, List, map};
 ghost use Rattle.roc_sequence.specs.Places.{IsListed, NoneTwice};
@@ -10,7 +10,7 @@ ghost use Rattle.roc_plan.specs.Accepted.{IsAccepted};
 ghost use Rattle.roc_whole.specs.Serial as whole;
 ghost use Rattle.roc_law_orders.specs.Runs.{stage_behind};
 ghost use Rattle.roc_law_orders.specs.Orders.{one_by_one};
-ghost use Rattle.roc_protocol.specs.PlanAssumptions.{HasSchemesFrom, IsWholeReplyFrom};
+ghost use Rattle.roc_law_protocol.specs.PlanAssumptions.{HasSchemesFrom, IsWholeReplyFrom};
 ghost use Rattle.roc_law_plans.specs.Scheme.{scheme_of, AreOrders, AreCalls};
 
 use crate::laws::{schemes_are_of_their_plan, schemes_are_sound};
@@ -31,7 +31,7 @@ pub fn transactions_from_any_store_are_whole()
     groups_in_turn_are_the_whole_run();
 }
 
-/// Every accepted plan has schemes from any store, so that each law of `roc_protocol::beginnings` holds of it.
+/// Every accepted plan has schemes from any store, so that each law of `roc_law_protocol::beginnings` holds of it.
 pub fn accepted_plans_have_schemes_from_any_store()
     ensures { (plan : Plan) (start : Store) → IsAccepted plan → HasSchemesFrom plan start }
 {

@@ -5,7 +5,7 @@ ghost use Rattle.roc_whole.specs.Serial as whole;
 ghost use Rattle.roc_plan.specs.Groups.{Plan, is_view_of};
 ghost use Rattle.roc_plan.specs.Accepted.{IsAccepted};
 ghost use Rattle.roc_law_log.specs.Scheme.{Scheme, IsSoundScheme};
-ghost use Rattle.roc_protocol.specs.PlanAssumptions.{IsSchemeOf};
+ghost use Rattle.roc_law_protocol.specs.PlanAssumptions.{IsSchemeOf};
 ghost use Rattle.roc_law_plans.specs.Scheme.{scheme_of, AreOrders, AreCalls};
 ghost use Rattle.roc_law_plans.specs.SmallPlans.{smallest, observed};
 

@@ -12,8 +12,8 @@ use Rattle.roc_msg.specs.declared.msg.Envelope.{Envelope}
 use Rattle.roc_msg.specs.Msg.{id_of}
 use Rattle.roc_plan.specs.Groups.{Plan}
 use Rattle.roc_audit.specs.declared.entry.Entry.TheVariants as entry
-use Rattle.roc_protocol.specs.declared.event.Kept.{Kept}
-use Rattle.roc_protocol.specs.Quiet.{PrecedesIn}
+use Rattle.roc_law_protocol.specs.declared.event.Kept.{Kept}
+use Rattle.roc_law_protocol.specs.Quiet.{PrecedesIn}
 use Rattle.roc_epoch.specs.declared.next.Next.{Next}
 use Rattle.roc_two_files.specs.Sealed.{Sealed}
 use Rattle.roc_growth.specs.declared.event.Event.{Event}

@@ -5,7 +5,7 @@ use Rattle.std.specs.Prelude.{slice_get}
 use Rattle.roc_base.specs.declared.node.Node.{Node}
 use Rattle.roc_msg.specs.declared.msg.Envelope.{Envelope}
 use Rattle.roc_msg.specs.declared.outbox.Outgoing.{Outgoing}
-use Rattle.roc_protocol.specs.World.{sent_by}
+use Rattle.roc_law_protocol.specs.World.{sent_by}
 use Rattle.roc_two_files.specs.Sealed.{Sealed, sealed_by}
 use Rattle.roc_growth.specs.Quiet.{messages_of}
 

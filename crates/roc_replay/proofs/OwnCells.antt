@@ -30,7 +30,7 @@ use Rattle.roc_step.specs.Runs.{group_call, buffered_here, run_group, run_groups
 use Rattle.roc_step.specs.Lists.{decides, commit_refusal, after_commit, fetch_taken, settled_to, known_refusal, after_known, lists_settled}
 use Rattle.roc_step.specs.Step as server
 use Rattle.roc_step.specs.Step.{Findings}
-use Rattle.roc_protocol.proofs.ReadsHere.{for_read}
+use Rattle.roc_law_protocol.proofs.ReadsHere.{for_read}
 use Rattle.roc_report.specs.ReportLine.{IsCellOf}
 
 -- what is read of stores

@@ -19,7 +19,7 @@ use Rattle.roc_msg.specs.declared.msg.Msg.{Msg}
 use Rattle.roc_msg.specs.declared.outbox.Outgoing.{Outgoing}
 use Rattle.roc_step.specs.State.{ServerStep}
 use Rattle.roc_coord.specs.declared.handled.SubmitFault.TheVariants as fault
-use Rattle.roc_protocol.specs.declared.event.Kept.{Kept}
+use Rattle.roc_law_protocol.specs.declared.event.Kept.{Kept}
 use Rattle.roc_epoch.specs.declared.file.File.{File}
 use Rattle.roc_epoch.specs.declared.next.Next.{Next}
 use Rattle.roc_epoch.specs.Files.{own_plan, IsNextOf}

@@ -15,8 +15,8 @@ use Rattle.roc_msg.specs.declared.outbox.Outgoing.{Outgoing}
 use Rattle.roc_msg.specs.Msg.{id_of}
 use Rattle.roc_plan.specs.Groups.{Plan}
 use Rattle.roc_coord.specs.declared.handled.SubmitFault.TheVariants as fault
-use Rattle.roc_protocol.specs.declared.event.Kept.{Kept}
-use Rattle.roc_protocol.specs.Quiet.{PrecedesIn}
+use Rattle.roc_law_protocol.specs.declared.event.Kept.{Kept}
+use Rattle.roc_law_protocol.specs.Quiet.{PrecedesIn}
 use Rattle.roc_epoch.specs.declared.file.File.{File}
 use Rattle.roc_epoch.specs.declared.next.Next.{Next}
 use Rattle.roc_two_files.specs.Sealed.{Sealed, sealed_by}

@@ -19,8 +19,8 @@ use Rattle.roc_audit.specs.declared.entry.Entry.{Entry}
 use Rattle.roc_audit.specs.declared.entry.Entry.TheVariants as entry
 use Rattle.roc_audit.specs.History.{WasSubmitted}
 use Rattle.roc_audit.specs.Witness.{IsSerialWitness}
-use Rattle.roc_views.specs.World.{first_beginning}
-use Rattle.roc_views.proofs.Numbered.{numbered}
+use Rattle.roc_law_world.specs.World.{first_beginning}
+use Rattle.roc_law_world.proofs.Numbered.{numbered}
 use Rattle.roc_epoch.specs.declared.next.Next.{Next}
 use Rattle.roc_epoch.specs.Files.{last_plan}
 use Rattle.roc_two_files.specs.Filed.{IsFiledWitness}

@@ -18,13 +18,13 @@ use Rattle.roc_plan.specs.Groups.{Plan, is_view_of}
 use Rattle.roc_program.specs.Program.{Workload}
 use Rattle.roc_whole.specs.Serial.{serial_store, start_store}
 use Rattle.roc_base.specs.declared.node.Shard.{Shard}
-use Rattle.roc_protocol.specs.declared.event.Kept.{Kept}
+use Rattle.roc_law_protocol.specs.declared.event.Kept.{Kept}
 use Rattle.roc_coord.specs.declared.handled.SubmitFault.TheVariants as fault
 use Rattle.roc_audit.specs.declared.entry.Entry.{Entry}
 use Rattle.roc_audit.specs.declared.entry.Entry.TheVariants as entry
 use Rattle.roc_audit.specs.History.{IsToldOnce}
 use Rattle.roc_audit.specs.Witness.{submitted_calls, IsSerialWitness}
-use Rattle.roc_protocol.specs.Quiet as transactions
+use Rattle.roc_law_protocol.specs.Quiet as transactions
 use Rattle.roc_epoch.specs.declared.file.File.{File}
 use Rattle.roc_epoch.specs.declared.next.Next.{Next}
 use Rattle.roc_epoch.specs.Files.{last_plan}

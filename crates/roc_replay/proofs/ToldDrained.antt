@@ -18,7 +18,7 @@ use Rattle.roc_coord.specs.declared.handled.SubmitFault.TheVariants as core_faul
 use Rattle.roc_coord.specs.State.{CoordStep}
 use Rattle.roc_coord.specs.Step.{after_message}
 use Rattle.roc_coord.specs.Submit.{Submission, next_id, after_submit}
-use Rattle.roc_protocol.proofs.Changed.{get-set_cases}
+use Rattle.roc_law_protocol.proofs.Changed.{get-set_cases}
 use Rattle.roc_epoch.specs.declared.file.File.{File}
 use Rattle.roc_epoch.specs.declared.next.Next.{Next}
 use Rattle.roc_epoch.specs.Files.{is_file, own_file, own_plan}

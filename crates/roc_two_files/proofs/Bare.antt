@@ -28,20 +28,20 @@ use Rattle.roc_step.specs.Reads.{ReadStep, with_accesses, is_taken, answering, r
 use Rattle.roc_coord.specs.State.{CoordState}
 use Rattle.roc_coord.specs.Submit.{after_submit, Submission}
 use Rattle.roc_coord.specs.Marks.{watermark, ended_to, ended_sends}
-use Rattle.roc_protocol.specs.World.{sent_by}
-use Rattle.roc_protocol.specs.declared.event.Event.{Event}
-use Rattle.roc_protocol.specs.declared.event.Event.TheVariants.{Submit, Deliver, Tick, Stop}
-use Rattle.roc_protocol.proofs.Firsts.{found_at}
-use Rattle.roc_protocol.specs.Beginnings as protocol
-use Rattle.roc_protocol.proofs.SubmissionEnds.{IsAnySubmission, any_submission_is, unknown, miscounted, spent, busy, taken}
+use Rattle.roc_law_protocol.specs.World.{sent_by}
+use Rattle.roc_law_protocol.specs.declared.event.Event.{Event}
+use Rattle.roc_law_protocol.specs.declared.event.Event.TheVariants.{Submit, Deliver, Tick, Stop}
+use Rattle.roc_law_protocol.proofs.Firsts.{found_at}
+use Rattle.roc_law_protocol.specs.Beginnings as protocol
+use Rattle.roc_law_protocol.proofs.SubmissionEnds.{IsAnySubmission, any_submission_is, unknown, miscounted, spent, busy, taken}
 use Rattle.roc_audit.specs.declared.entry.Entry.{Entry}
-use Rattle.roc_views.specs.World.{World, Beginning, begun_viewing, mark_delivered, at_server}
-use Rattle.roc_views.specs.Happens.{Outcome, IsSubmissionOf, IsReceived}
-use Rattle.roc_views.specs.Run.{Stepped, Transition, IsRunFrom, at_beginning, steps_on}
-use Rattle.roc_views.proofs.AnsweringRuns.{told_in_runs}
-use Rattle.roc_views.proofs.ViewsStay.{get-set_cases}
-use Rattle.roc_views.proofs.Stops.{Loses, less, by_losing}
-use Rattle.roc_views.proofs.WovenOrder.{is_view, tells_them}
+use Rattle.roc_law_world.specs.World.{World, Beginning, begun_viewing, mark_delivered, at_server}
+use Rattle.roc_law_world.specs.Happens.{Outcome, IsSubmissionOf, IsReceived}
+use Rattle.roc_law_world.specs.Run.{Stepped, Transition, IsRunFrom, at_beginning, steps_on}
+use Rattle.roc_law_world.proofs.AnsweringRuns.{told_in_runs}
+use Rattle.roc_law_world.proofs.ViewsStay.{get-set_cases}
+use Rattle.roc_law_world.proofs.Stops.{Loses, less, by_losing}
+use Rattle.roc_law_world.proofs.WovenOrder.{is_view, tells_them}
 use Rattle.roc_two_files.specs.Home.{GoesHome}
 use Rattle.roc_two_files.specs.Left.{AreDrained}
 use Rattle.roc_two_files.proofs.Drains.{nobody}

@@ -17,17 +17,17 @@ use Rattle.roc_coord.specs.State.{CoordState}
 use Rattle.roc_audit.specs.History.{WasSubmitted, WasAnswered}
 use Rattle.roc_audit.specs.Witness.{submitted_calls, IsSerialWitnessFrom}
 use Rattle.roc_audit.specs.Woven.{without_views}
-use Rattle.roc_protocol.specs.Beginnings as protocol
+use Rattle.roc_law_protocol.specs.Beginnings as protocol
 use Rattle.roc_rows.specs.Versions.{version}
 use Rattle.roc_rows.specs.declared.cell.Cell.{Cell}
-use Rattle.roc_views.specs.World.{World, Beginning}
-use Rattle.roc_views.specs.Beginnings.{IsViewBeginning}
-use Rattle.roc_views.specs.Run.{Stepped, IsRunFrom}
-use Rattle.roc_views.specs.Witness.{witness_of}
-use Rattle.roc_views.proofs.AnsweringRuns.{told_in_runs}
-use Rattle.roc_views.proofs.LooksLeave.{answered_beside, witness_leaves}
-use Rattle.roc_views.proofs.WovenOrder.{is_view, tells_them, run_beside}
-use Rattle.roc_views.proofs.Versions.{most}
+use Rattle.roc_law_world.specs.World.{World, Beginning}
+use Rattle.roc_law_world.specs.Beginnings.{IsViewBeginning}
+use Rattle.roc_law_world.specs.Run.{Stepped, IsRunFrom}
+use Rattle.roc_law_world.specs.Witness.{witness_of}
+use Rattle.roc_law_world.proofs.AnsweringRuns.{told_in_runs}
+use Rattle.roc_law_world.proofs.LooksLeave.{answered_beside, witness_leaves}
+use Rattle.roc_law_world.proofs.WovenOrder.{is_view, tells_them, run_beside}
+use Rattle.roc_law_world.proofs.Versions.{most}
 use Rattle.roc_two_files.specs.Left.{AreDrained, versions_in, left_behind}
 use Rattle.roc_two_files.proofs.SmallVersions.{run_small}
 

@@ -12,8 +12,8 @@ use Rattle.roc_whole.specs.Serial.{Call, Answer, run_of, serial_answers}
 use Rattle.roc_audit.specs.declared.entry.Entry.{Entry}
 use Rattle.roc_audit.specs.declared.entry.Entry.TheVariants.{Submitted}
 use Rattle.roc_audit.specs.Witness.{submitted_calls, reply_in, IsSerialWitnessFrom}
-use Rattle.roc_views.specs.World.{World, Beginning}
-use Rattle.roc_views.specs.Run.{Stepped, IsRunFrom}
+use Rattle.roc_law_world.specs.World.{World, Beginning}
+use Rattle.roc_law_world.specs.Run.{Stepped, IsRunFrom}
 use Rattle.roc_epoch.specs.Grown.{IsGrownFrom}
 use Rattle.roc_two_files.specs.Left.{left_behind}
 use Rattle.roc_two_files.specs.Filed.{file_by, filed_answers, IsFiledWitness, is_behind}

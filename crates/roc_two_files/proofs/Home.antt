@@ -16,12 +16,12 @@ use Rattle.roc_law_log.specs.Log.{Log}
 use Rattle.roc_audit.specs.declared.entry.Entry.TheVariants.{Submitted}
 use Rattle.roc_audit.specs.History.{WasSubmitted}
 use Rattle.roc_audit.specs.Woven.{entry_id}
-use Rattle.roc_protocol.proofs.Means.{Means, Began, run_of}
-use Rattle.roc_views.specs.World.{World, Beginning}
-use Rattle.roc_views.specs.Beside.{is_of_view, is_of_transaction}
-use Rattle.roc_views.specs.Run.{Stepped, IsRunFrom}
-use Rattle.roc_views.proofs.ViewMeans.{MessageIsFor}
-use Rattle.roc_views.proofs.WovenOrder.{called_in, is_view, run_beside}
+use Rattle.roc_law_protocol.proofs.Means.{Means, Began, run_of}
+use Rattle.roc_law_world.specs.World.{World, Beginning}
+use Rattle.roc_law_world.specs.Beside.{is_of_view, is_of_transaction}
+use Rattle.roc_law_world.specs.Run.{Stepped, IsRunFrom}
+use Rattle.roc_law_world.proofs.ViewMeans.{MessageIsFor}
+use Rattle.roc_law_world.proofs.WovenOrder.{called_in, is_view, run_beside}
 use Rattle.roc_two_files.specs.Home.{GoesHome}
 
 module _ (plan : Plan) (b : Beginning) (coords : ℕ) (steps : List Stepped) (w : World) (run : IsRunFrom plan b coords steps w) where

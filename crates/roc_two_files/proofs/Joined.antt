@@ -12,7 +12,7 @@ use Rattle.roc_audit.specs.declared.entry.Entry.{Entry}
 use Rattle.roc_audit.specs.declared.entry.Entry.TheVariants.{Submitted, Answered}
 use Rattle.roc_audit.specs.History.{WasAnswered}
 use Rattle.roc_audit.specs.Woven.{Look, woven}
-use Rattle.roc_views.specs.Witness.{was_answered, looks_again, last_looks, witness_in}
+use Rattle.roc_law_world.specs.Witness.{was_answered, looks_again, last_looks, witness_in}
 use Rattle.roc_two_files.specs.Orders.{later_by}
 
 -- ---- weaving

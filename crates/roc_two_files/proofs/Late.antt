@@ -14,19 +14,19 @@ use Rattle.roc_coord.specs.Submit.{next_id, new_transaction, accepted, accepted_
 use Rattle.roc_readonly.specs.Round.{first_round}
 use Rattle.roc_audit.specs.declared.entry.Entry.{Entry}
 use Rattle.roc_audit.specs.declared.entry.Entry.TheVariants.{Submitted}
-use Rattle.roc_protocol.specs.Beginnings as protocol
-use Rattle.roc_protocol.specs.declared.event.Event.{Event}
-use Rattle.roc_protocol.specs.declared.event.Event.TheVariants.{Submit, Deliver, Tick, Stop}
-use Rattle.roc_protocol.specs.Happens.{answer_entries}
-use Rattle.roc_protocol.proofs.Firsts.{found_at}
-use Rattle.roc_protocol.proofs.Submissions.{keeps_number, no_submission}
-use Rattle.roc_protocol.proofs.SubmissionEnds.{IsAnySubmission, any_submission_is, unknown, miscounted, spent, busy, taken}
-use Rattle.roc_views.specs.World.{World, Beginning, begun_world, mark_delivered, at_coord}
-use Rattle.roc_views.specs.Happens.{Outcome, IsReceived, IsSubmissionOf}
-use Rattle.roc_views.specs.Run.{Stepped, Transition, IsRunFrom, at_beginning, steps_on}
-use Rattle.roc_views.proofs.Numbered.{IsNumbered, numbered}
-use Rattle.roc_views.proofs.ViewsStay.{get-set_cases}
-use Rattle.roc_views.proofs.Stops.{stop_keeps}
+use Rattle.roc_law_protocol.specs.Beginnings as protocol
+use Rattle.roc_law_protocol.specs.declared.event.Event.{Event}
+use Rattle.roc_law_protocol.specs.declared.event.Event.TheVariants.{Submit, Deliver, Tick, Stop}
+use Rattle.roc_law_protocol.specs.Happens.{answer_entries}
+use Rattle.roc_law_protocol.proofs.Firsts.{found_at}
+use Rattle.roc_law_protocol.proofs.Submissions.{keeps_number, no_submission}
+use Rattle.roc_law_protocol.proofs.SubmissionEnds.{IsAnySubmission, any_submission_is, unknown, miscounted, spent, busy, taken}
+use Rattle.roc_law_world.specs.World.{World, Beginning, begun_world, mark_delivered, at_coord}
+use Rattle.roc_law_world.specs.Happens.{Outcome, IsReceived, IsSubmissionOf}
+use Rattle.roc_law_world.specs.Run.{Stepped, Transition, IsRunFrom, at_beginning, steps_on}
+use Rattle.roc_law_world.proofs.Numbered.{IsNumbered, numbered}
+use Rattle.roc_law_world.proofs.ViewsStay.{get-set_cases}
+use Rattle.roc_law_world.proofs.Stops.{stop_keeps}
 
 module _ (plan : Plan) (b : Beginning) (coords : ℕ) where
   pub record IsLate (w : World) : Type 0 where

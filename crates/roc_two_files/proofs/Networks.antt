@@ -9,10 +9,10 @@ use Rattle.roc_sequence.proofs.Members.{from_has_map}
 use Rattle.roc_base.specs.declared.node.Node.{Node}
 use Rattle.roc_msg.specs.declared.msg.Envelope.{Envelope}
 use Rattle.roc_msg.specs.declared.outbox.Outgoing.{Outgoing}
-use Rattle.roc_protocol.specs.World.{sent_by}
-use Rattle.roc_views.specs.World.{World, sends, mark_delivered}
-use Rattle.roc_views.proofs.Ranks.{rank_there, from_rank}
-use Rattle.roc_views.proofs.Sent.{filter_append, filter_all, filter_none}
+use Rattle.roc_law_protocol.specs.World.{sent_by}
+use Rattle.roc_law_world.specs.World.{World, sends, mark_delivered}
+use Rattle.roc_law_world.proofs.Ranks.{rank_there, from_rank}
+use Rattle.roc_law_world.proofs.Sent.{filter_append, filter_all, filter_none}
 use Rattle.roc_epoch.specs.declared.file.File.{File}
 use Rattle.roc_epoch.specs.declared.file.File.TheVariants.{Neither}
 use Rattle.roc_epoch.specs.Files.{is_between, own_file, is_file}

@@ -8,12 +8,12 @@ use Rattle.roc_step.specs.Renewed.{renewed, renewed_viewing}
 use Rattle.roc_coord.specs.State.{CoordState}
 use Rattle.roc_coord.specs.Renewed.{renewed_coord}
 use Rattle.roc_rows.specs.Versions.{Counts}
-use Rattle.roc_protocol.specs.Beginnings as protocol
-use Rattle.roc_views.specs.World.{World, Beginning, begun_world, begun_viewing}
-use Rattle.roc_views.specs.Run.{Stepped, IsRunFrom}
-use Rattle.roc_views.specs.Fits.{FitsWorld}
-use Rattle.roc_views.proofs.Numbered.{numbered}
-use Rattle.roc_views.proofs.SameNodes.{run_count}
+use Rattle.roc_law_protocol.specs.Beginnings as protocol
+use Rattle.roc_law_world.specs.World.{World, Beginning, begun_world, begun_viewing}
+use Rattle.roc_law_world.specs.Run.{Stepped, IsRunFrom}
+use Rattle.roc_law_world.specs.Fits.{FitsWorld}
+use Rattle.roc_law_world.proofs.Numbered.{numbered}
+use Rattle.roc_law_world.proofs.SameNodes.{run_count}
 use Rattle.roc_two_files.specs.Left.{versions_in, left_behind}
 
 -- each place of a list is made anew from its number

@@ -13,12 +13,12 @@ use Rattle.roc_coord.specs.State.{ignored, find_transaction, find_view, CoordSta
 use Rattle.roc_coord.specs.Step.{unasked, unread, after_startok, after_commitok, after_readok, after_message}
 use Rattle.roc_coord.specs.Marks.{ended_sends}
 use Rattle.roc_coord.specs.Tick.{again_of}
-use Rattle.roc_protocol.specs.declared.event.Event.TheVariants.{Deliver, Tick}
-use Rattle.roc_protocol.specs.declared.event.Seen.TheVariants as seen
-use Rattle.roc_views.specs.World.{World, Beginning, mark_delivered, at_coord, at_coord_tick}
-use Rattle.roc_views.specs.Happens.{Outcome, undecided, coordinated, IsReceived, Happens}
-use Rattle.roc_views.specs.Run.{Stepped, IsRunFrom}
-use Rattle.roc_views.proofs.Besides.{set_there}
+use Rattle.roc_law_protocol.specs.declared.event.Event.TheVariants.{Deliver, Tick}
+use Rattle.roc_law_protocol.specs.declared.event.Seen.TheVariants as seen
+use Rattle.roc_law_world.specs.World.{World, Beginning, mark_delivered, at_coord, at_coord_tick}
+use Rattle.roc_law_world.specs.Happens.{Outcome, undecided, coordinated, IsReceived, Happens}
+use Rattle.roc_law_world.specs.Run.{Stepped, IsRunFrom}
+use Rattle.roc_law_world.proofs.Besides.{set_there}
 use Rattle.roc_two_files.specs.Left.{AreDrained}
 use Rattle.roc_two_files.proofs.Drains.{at_rest}
 

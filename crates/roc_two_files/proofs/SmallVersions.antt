@@ -12,17 +12,17 @@ use Rattle.roc_step.specs.Reads.{ReadStep, with_accesses, is_taken, answering, r
 use Rattle.roc_step.specs.Runs.{accesses_of}
 use Rattle.roc_msg.specs.declared.outbox.Ran.{Ran}
 use Rattle.roc_coord.specs.Submit.{next_id, new_transaction, accepted, accepted_view, after_submit, Submission}
-use Rattle.roc_protocol.specs.declared.event.Event.{Event}
-use Rattle.roc_protocol.specs.declared.event.Event.TheVariants.{Submit, Deliver, Tick, Stop}
-use Rattle.roc_protocol.proofs.Firsts.{found_at}
-use Rattle.roc_protocol.proofs.SubmissionEnds.{IsAnySubmission, any_submission_is, unknown, miscounted, spent, busy, taken}
+use Rattle.roc_law_protocol.specs.declared.event.Event.{Event}
+use Rattle.roc_law_protocol.specs.declared.event.Event.TheVariants.{Submit, Deliver, Tick, Stop}
+use Rattle.roc_law_protocol.proofs.Firsts.{found_at}
+use Rattle.roc_law_protocol.proofs.SubmissionEnds.{IsAnySubmission, any_submission_is, unknown, miscounted, spent, busy, taken}
 use Rattle.roc_readonly.specs.Round.{first_round}
-use Rattle.roc_views.specs.World.{World, Beginning, begun_viewing, mark_delivered}
-use Rattle.roc_views.specs.Happens.{Outcome, IsReceived, IsSubmissionOf}
-use Rattle.roc_views.specs.Run.{Stepped, Transition, IsRunFrom, at_beginning, steps_on}
-use Rattle.roc_views.proofs.Versions.{most, count_accesses}
-use Rattle.roc_views.proofs.ViewsStay.{get-set_cases}
-use Rattle.roc_views.proofs.Stops.{by_losing}
+use Rattle.roc_law_world.specs.World.{World, Beginning, begun_viewing, mark_delivered}
+use Rattle.roc_law_world.specs.Happens.{Outcome, IsReceived, IsSubmissionOf}
+use Rattle.roc_law_world.specs.Run.{Stepped, Transition, IsRunFrom, at_beginning, steps_on}
+use Rattle.roc_law_world.proofs.Versions.{most, count_accesses}
+use Rattle.roc_law_world.proofs.ViewsStay.{get-set_cases}
+use Rattle.roc_law_world.proofs.Stops.{by_losing}
 
 abbrev pub AreSmall : List Viewing → Type 0
 AreSmall viewing = (n : ℕ) (v : Viewing) → slice_get viewing n ≡ Some v → (x : Cell) → version v.versions x ≤ most

@@ -12,18 +12,18 @@ use Rattle.roc_whole.specs.Serial.{serial_store}
 use Rattle.roc_audit.specs.History.{WasSubmitted}
 use Rattle.roc_audit.specs.Witness.{submitted_calls, IsSerialWitnessFrom}
 use Rattle.roc_audit.specs.Woven.{Look}
-use Rattle.roc_protocol.specs.Beginnings as protocol
-use Rattle.roc_views.specs.World.{World, Beginning}
-use Rattle.roc_views.specs.Beside.{TellsViews}
-use Rattle.roc_views.specs.Run.{Stepped, IsRunFrom, at_beginning, steps_on}
-use Rattle.roc_views.specs.Witness.{shown, witness_of}
-use Rattle.roc_views.proofs.AnsweringRuns.{told_in_runs}
-use Rattle.roc_views.proofs.LooksLeave.{told_in_time}
-use Rattle.roc_views.proofs.Numbered.{numbered}
-use Rattle.roc_views.proofs.Runs.{beside, grows}
-use Rattle.roc_views.proofs.Steps.{tells_before}
-use Rattle.roc_views.proofs.TimeSteps.{adds_in_time}
-use Rattle.roc_views.proofs.WovenOrder.{is_view, tells_them}
+use Rattle.roc_law_protocol.specs.Beginnings as protocol
+use Rattle.roc_law_world.specs.World.{World, Beginning}
+use Rattle.roc_law_world.specs.Beside.{TellsViews}
+use Rattle.roc_law_world.specs.Run.{Stepped, IsRunFrom, at_beginning, steps_on}
+use Rattle.roc_law_world.specs.Witness.{shown, witness_of}
+use Rattle.roc_law_world.proofs.AnsweringRuns.{told_in_runs}
+use Rattle.roc_law_world.proofs.LooksLeave.{told_in_time}
+use Rattle.roc_law_world.proofs.Numbered.{numbered}
+use Rattle.roc_law_world.proofs.Runs.{beside, grows}
+use Rattle.roc_law_world.proofs.Steps.{tells_before}
+use Rattle.roc_law_world.proofs.TimeSteps.{adds_in_time}
+use Rattle.roc_law_world.proofs.WovenOrder.{is_view, tells_them}
 use Rattle.roc_audit.proofs.Histories.{submitted_front}
 use Rattle.roc_epoch.specs.Grown.{IsGrownFrom}
 use Rattle.roc_two_files.specs.Left.{left_behind}

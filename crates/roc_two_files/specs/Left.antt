@@ -6,10 +6,10 @@ use Rattle.roc_whole.specs.Serial.{serial_store}
 use Rattle.roc_step.specs.State.{Viewing}
 use Rattle.roc_coord.specs.State.{CoordState}
 use Rattle.roc_audit.specs.Witness.{submitted_calls}
-use Rattle.roc_protocol.specs.Beginnings.{left_by}
-use Rattle.roc_views.specs.World.{World, Beginning}
-use Rattle.roc_views.specs.Bare.{bare}
-use Rattle.roc_views.specs.Witness.{witness_of}
+use Rattle.roc_law_protocol.specs.Beginnings.{left_by}
+use Rattle.roc_law_world.specs.World.{World, Beginning}
+use Rattle.roc_law_world.specs.Bare.{bare}
+use Rattle.roc_law_world.specs.Witness.{witness_of}
 
 -- no coordinator has anything unanswered
 abbrev pub AreDrained : List CoordState → Type 0

@@ -2,8 +2,8 @@
 use Rattle.std.specs.Prelude.{ℕ, ◌+◌, List, ◌++◌, length, map}
 use Rattle.roc_base.specs.declared.id.TxnId.{TxnId}
 use Rattle.roc_audit.specs.Woven.{Look}
-use Rattle.roc_views.specs.Witness.{witness_in}
-use Rattle.roc_views.specs.World.{World}
+use Rattle.roc_law_world.specs.Witness.{witness_in}
+use Rattle.roc_law_world.specs.World.{World}
 
 -- a look behind so many more
 abbrev pub later_by : ℕ → Look → Look

@@ -7,9 +7,9 @@ use Rattle.roc_msg.specs.declared.msg.Envelope.{Envelope}
 use Rattle.roc_msg.specs.declared.outbox.Outgoing.{Outgoing}
 use Rattle.roc_epoch.specs.declared.file.File.{File}
 use Rattle.roc_epoch.specs.Files.{is_file, file_of}
-use Rattle.roc_protocol.specs.World.{sent_by}
-use Rattle.roc_views.specs.Rank.{rank}
-use Rattle.roc_views.specs.World.{World}
+use Rattle.roc_law_protocol.specs.World.{sent_by}
+use Rattle.roc_law_world.specs.Rank.{rank}
+use Rattle.roc_law_world.specs.World.{World}
 
 pub record Sealed : Type 0 where
   pub file : File

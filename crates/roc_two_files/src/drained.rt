@@ -14,14 +14,14 @@ ghost use Rattle.roc_coord.specs.State.{CoordState};
 ghost use Rattle.roc_coord.specs.Renewed.{renewed_coord};
 ghost use Rattle.roc_coord.specs.Marks.{ended_sends};
 ghost use Rattle.roc_audit.specs.declared.entry.Entry.TheVariants.{Submitted};
-ghost use Rattle.roc_protocol.specs.World.{sent_by};
-ghost use Rattle.roc_protocol.specs.declared.event.Event.{Event};
-ghost use Rattle.roc_protocol.specs.declared.event.Event.TheVariants as event;
-ghost use Rattle.roc_protocol.specs.declared.event.Seen.TheVariants as seen;
-ghost use Rattle.roc_views.specs.World.{World, Beginning, begun_world, mark_delivered, at_coord_tick};
-ghost use Rattle.roc_views.specs.Beginnings.{IsViewBeginning};
-ghost use Rattle.roc_views.specs.Happens.{Outcome, undecided, Happens};
-ghost use Rattle.roc_views.specs.Run.{Stepped, Transition, IsRunFrom};
+ghost use Rattle.roc_law_protocol.specs.World.{sent_by};
+ghost use Rattle.roc_law_protocol.specs.declared.event.Event.{Event};
+ghost use Rattle.roc_law_protocol.specs.declared.event.Event.TheVariants as event;
+ghost use Rattle.roc_law_protocol.specs.declared.event.Seen.TheVariants as seen;
+ghost use Rattle.roc_law_world.specs.World.{World, Beginning, begun_world, mark_delivered, at_coord_tick};
+ghost use Rattle.roc_law_world.specs.Beginnings.{IsViewBeginning};
+ghost use Rattle.roc_law_world.specs.Happens.{Outcome, undecided, Happens};
+ghost use Rattle.roc_law_world.specs.Run.{Stepped, Transition, IsRunFrom};
 ghost use Rattle.roc_two_files.specs.Home.{GoesHome};
 ghost use Rattle.roc_epoch.specs.Files.{is_between};
 ghost use Rattle.roc_two_files.specs.Left.{AreDrained, left_behind};
@@ -33,10 +33,10 @@ use roc_law_log::laws::steady_cells_are_serial;
 use roc_law_orders::laws::runs_stay;
 use roc_law_plans::beginnings::accepted_plans_have_schemes_from_any_store;
 use roc_law_plans::laws::views_have_schemes;
+use roc_law_protocol::beginnings::{answered_worlds_begin, order_is_serial};
+use roc_law_protocol::laws::machine_laws;
+use roc_law_world::beginnings::worlds_fit;
 use roc_plan::laws::views_are_apart;
-use roc_protocol::beginnings::{answered_worlds_begin, order_is_serial};
-use roc_protocol::laws::machine_laws;
-use roc_views::beginnings::worlds_fit;
 
 /// A world in which nothing is unanswered leaves a beginning, of its own plan and of each other one with as many shards.
 pub fn drained_worlds_begin()

@@ -8,16 +8,16 @@ ghost use Rattle.roc_plan.specs.Groups.{Plan};
 ghost use Rattle.roc_plan.specs.Accepted.{IsAccepted};
 ghost use Rattle.roc_audit.specs.History.{WasSubmitted};
 ghost use Rattle.roc_audit.specs.Witness.{IsSerialWitness, IsSerialWitnessFrom};
-ghost use Rattle.roc_views.specs.World.{World, Beginning, first_beginning};
-ghost use Rattle.roc_views.specs.Beginnings.{IsViewBeginning};
-ghost use Rattle.roc_views.specs.Run.{Stepped, IsRun, IsRunFrom};
+ghost use Rattle.roc_law_world.specs.World.{World, Beginning, first_beginning};
+ghost use Rattle.roc_law_world.specs.Beginnings.{IsViewBeginning};
+ghost use Rattle.roc_law_world.specs.Run.{Stepped, IsRun, IsRunFrom};
 ghost use Rattle.roc_two_files.specs.Filed.{IsFiledWitness, is_behind};
 ghost use Rattle.roc_epoch.specs.Grown.{IsGrownFrom};
 ghost use Rattle.roc_two_files.specs.Left.{AreDrained, left_behind};
 ghost use Rattle.roc_two_files.specs.Orders.{witness_of_both};
 
 use crate::drained::drained_worlds_begin;
-use roc_views::beginnings::{first_worlds_begin, looks_fit, witness_is_serial};
+use roc_law_world::beginnings::{first_worlds_begin, looks_fit, witness_is_serial};
 
 /// What the two runs tell, one behind the other, one order explains, with each id run by the grown program: the order of the first run, and behind it that of the
 /// second, with each answered view put in where it looked last.

@@ -5,7 +5,7 @@ ghost use Rattle.roc_base.specs.declared.node.Node.{Node};
 ghost use Rattle.roc_sequence.specs.Lists.{Has};
 ghost use Rattle.roc_msg.specs.declared.msg.Envelope.{Envelope};
 ghost use Rattle.roc_msg.specs.declared.outbox.Outgoing.{Outgoing};
-ghost use Rattle.roc_views.specs.World.{World, sends, mark_delivered};
+ghost use Rattle.roc_law_world.specs.World.{World, sends, mark_delivered};
 ghost use Rattle.roc_epoch.specs.declared.file.File.{File};
 ghost use Rattle.roc_epoch.specs.declared.file.File.TheVariants.{Neither};
 ghost use Rattle.roc_epoch.specs.Files.{is_between, own_file};

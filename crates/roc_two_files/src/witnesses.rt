@@ -10,7 +10,7 @@ ghost use Rattle.roc_audit.specs.declared.entry.Entry.TheVariants.{Submitted};
 ghost use Rattle.roc_audit.specs.History.{WasSubmitted, WasAnswered};
 ghost use Rattle.roc_audit.specs.Witness.{submitted_calls, IsSerialWitnessFrom};
 ghost use Rattle.roc_audit.specs.Woven.{Look};
-ghost use Rattle.roc_views.specs.Witness.{was_answered, last_looks, witness_in};
+ghost use Rattle.roc_law_world.specs.Witness.{was_answered, last_looks, witness_in};
 ghost use Rattle.roc_epoch.specs.Grown.{IsGrownFrom};
 ghost use Rattle.roc_two_files.specs.Orders.{later_by};
 

@@ -8,11 +8,11 @@ use Rattle.roc_base.specs.declared.node.Shard.{Shard}
 use Rattle.roc_msg.specs.Outbox.{Collected}
 use Rattle.roc_plan.specs.Groups.{Plan}
 use Rattle.roc_audit.specs.Order.{noted}
-use Rattle.roc_protocol.specs.declared.event.Kept.TheVariants.{Lost, Sent}
-use Rattle.roc_protocol.specs.Happens.{ran_at}
-use Rattle.roc_protocol.proofs.Changed.{get-set_here}
-use Rattle.roc_views.specs.World.{looks_in}
-use Rattle.roc_views.proofs.Besides.{set_there}
+use Rattle.roc_law_protocol.specs.declared.event.Kept.TheVariants.{Lost, Sent}
+use Rattle.roc_law_protocol.specs.Happens.{ran_at}
+use Rattle.roc_law_protocol.proofs.Changed.{get-set_here}
+use Rattle.roc_law_world.specs.World.{looks_in}
+use Rattle.roc_law_world.proofs.Besides.{set_there}
 use Rattle.roc_epoch.specs.declared.next.Next.{Next}
 use Rattle.roc_two_files.specs.Sealed.{Sealed}
 use Rattle.roc_grown.specs.declared.handled.GrownHandled.{GrownHandled}

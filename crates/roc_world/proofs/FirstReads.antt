@@ -5,7 +5,7 @@ use Rattle.std.specs.List.{filter_map, cons_option}
 use Rattle.roc_sequence.proofs.Fronts.{front_more, front_whole, parts_at}
 use Rattle.roc_base.specs.declared.id.TxnId.{TxnId}
 use Rattle.roc_msg.specs.declared.outbox.Outgoing.{Outgoing}
-use Rattle.roc_views.specs.World.{reads_for, first_look, looks_in}
+use Rattle.roc_law_world.specs.World.{reads_for, first_look, looks_in}
 
 abbrev pub reads_in : List Outgoing → List TxnId
 reads_in outs = filter_map (λ (out : Outgoing). reads_for out.msg) outs

@@ -6,8 +6,8 @@ use Rattle.std.specs.List.{AllByRecursion}
 use Rattle.roc_sequence.proofs.Holds.{all_has}
 use Rattle.roc_sequence.proofs.Members.{has_at}
 use Rattle.roc_msg.specs.declared.msg.Envelope.{Envelope}
-use Rattle.roc_protocol.specs.Fits.{IsNode}
-use Rattle.roc_views.specs.Fits.{IsSentHere}
+use Rattle.roc_law_protocol.specs.Fits.{IsNode}
+use Rattle.roc_law_world.specs.Fits.{IsSentHere}
 use Rattle.roc_epoch.specs.declared.file.File.{File}
 use Rattle.roc_two_files.specs.Sealed.{Sealed}
 use Rattle.roc_growth.specs.Quiet.{messages_of}

@@ -13,8 +13,8 @@ use Rattle.roc_coord.specs.State.{CoordState}
 use Rattle.roc_coord.specs.Submit as submit
 use Rattle.roc_coord.specs.Submit.{Submission, refusal_of, refused_or_accepted, after_submit}
 use Rattle.roc_audit.specs.declared.entry.Entry.TheVariants as entry
-use Rattle.roc_views.specs.World.{looks_in}
-use Rattle.roc_views.proofs.Besides.{set_there}
+use Rattle.roc_law_world.specs.World.{looks_in}
+use Rattle.roc_law_world.proofs.Besides.{set_there}
 use Rattle.roc_epoch.specs.declared.next.Next.{Next}
 use Rattle.roc_epoch.specs.Files.{last_plan, own_plan, IsNextOf}
 use Rattle.roc_grown.specs.declared.handled.GrownFault.{GrownFault}

@@ -8,7 +8,7 @@ use Rattle.roc_msg.specs.declared.outbox.Outgoing.{Outgoing}
 use Rattle.roc_plan.specs.Groups.{Plan}
 use Rattle.roc_coord.specs.declared.handled.SubmitFault.TheVariants as fault
 use Rattle.roc_epoch.specs.declared.next.Next.{Next}
-use Rattle.roc_protocol.specs.declared.event.Kept.{Kept}
+use Rattle.roc_law_protocol.specs.declared.event.Kept.{Kept}
 use Rattle.roc_grown.specs.declared.handled.GrownFault.{GrownFault}
 use Rattle.roc_grown.specs.declared.handled.GrownFault.TheVariants as grown
 use Rattle.roc_grown.specs.Server.{GrownStep}

@@ -15,7 +15,7 @@ use Rattle.roc_audit.specs.declared.entry.Entry.{Entry}
 use Rattle.roc_audit.specs.declared.entry.Entry.TheVariants.{Submitted, Answered}
 use Rattle.roc_audit.specs.Woven as audit
 use Rattle.roc_audit.specs.Woven.{woven}
-use Rattle.roc_views.specs.Witness.{was_answered, last_looks}
+use Rattle.roc_law_world.specs.Witness.{was_answered, last_looks}
 use Rattle.roc_world.specs.declared.looks.Look.{Look}
 use Rattle.roc_world.specs.Inner.Looks.{looked}
 

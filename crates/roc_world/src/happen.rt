@@ -1,7 +1,7 @@
 //! What an event does, over the fields of a world.
 ghost use Rattle.std.specs.Prelude.{◌≡◌, ◌<◌, ◌≤◌, Some, length, IfOk, OnOk};
 ghost use Rattle.std.specs.Option.{option_copied};
-ghost use Rattle.roc_protocol.specs.declared.event.Kept.TheVariants as kept;
+ghost use Rattle.roc_law_protocol.specs.declared.event.Kept.TheVariants as kept;
 ghost use Rattle.roc_epoch.specs.Files.{IsNextOf};
 ghost use Rattle.roc_growth.specs.declared.event.Event.TheVariants as event;
 ghost use Rattle.roc_growth.specs.declared.event.Seen.TheVariants as seen;

@@ -1,6 +1,6 @@
 //! When rounds of views began.
 ghost use Rattle.std.specs.Prelude.{◌≡◌, ◌++◌, map, OnOk};
-ghost use Rattle.roc_views.specs.World.{looks_in, reads_for};
+ghost use Rattle.roc_law_world.specs.World.{looks_in, reads_for};
 ghost use Rattle.roc_world.specs.Inner.Looks.{looked};
 
 use roc_base::{NoMemory, TxnId};

@@ -4,7 +4,7 @@ ghost use Rattle.std.specs.Prelude.{◌≡◌, ◌++◌, ◌∷◌, [], length, 
 ghost use Rattle.roc_base.specs.declared.node.Node.TheVariants as node;
 ghost use Rattle.roc_audit.specs.declared.entry.Entry.TheVariants as entry;
 ghost use Rattle.roc_audit.specs.Order.{noted};
-ghost use Rattle.roc_views.specs.World.{looks_in};
+ghost use Rattle.roc_law_world.specs.World.{looks_in};
 ghost use Rattle.roc_growth.specs.declared.event.Seen.TheVariants as seen;
 ghost use Rattle.roc_growth.specs.Happens.{coord_seen, server_seen, answer_entries};
 ghost use Rattle.roc_growth.specs.World.{sends};

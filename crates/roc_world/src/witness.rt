@@ -4,7 +4,7 @@ ghost use Rattle.std.specs.BTreeSet.{contains};
 ghost use Rattle.roc_base.specs.declared.id.TxnId.{TxnId as Id};
 ghost use Rattle.roc_base.specs.TxnId.{txn_cmp};
 ghost use Rattle.roc_audit.specs.Woven.{woven};
-ghost use Rattle.roc_views.specs.Witness.{was_answered, last_looks};
+ghost use Rattle.roc_law_world.specs.Witness.{was_answered, last_looks};
 ghost use Rattle.roc_world.specs.Inner.Looks.{looked};
 
 use crate::looks::Look;

@@ -2,7 +2,7 @@
 ghost use Rattle.std.specs.Prelude.{◌≡◌, List, length, IfOk, OnOk};
 ghost use Rattle.std.specs.Option.{option_copied};
 ghost use Rattle.roc_base.specs.declared.id.TxnId.{TxnId};
-ghost use Rattle.roc_protocol.specs.Happens.{RanAt};
+ghost use Rattle.roc_law_protocol.specs.Happens.{RanAt};
 ghost use Rattle.roc_epoch.specs.Files.{IsNextOf};
 ghost use Rattle.roc_growth.specs.Fits.{FitsGrown};
 ghost use Rattle.roc_growth.specs.Happens.{Happens};

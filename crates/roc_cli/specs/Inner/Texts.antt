@@ -8,8 +8,8 @@ use Rattle.roc_lang_parse.specs.Fault.{IsWorkloadText, IsFirstFault}
 use Rattle.roc_program.specs.Program.{Workload}
 use Rattle.roc_plan.specs.Groups.{Plan}
 use Rattle.roc_plan.specs.Accepted.{IsAccepted}
-use Rattle.roc_views.specs.World.{World}
-use Rattle.roc_views.specs.Run.{Stepped, IsRun}
+use Rattle.roc_law_world.specs.World.{World}
+use Rattle.roc_law_world.specs.Run.{Stepped, IsRun}
 use Rattle.roc_epoch.specs.declared.fault.GrowthFault.{GrowthFault}
 use Rattle.roc_epoch.specs.declared.next.Next.{Next}
 use Rattle.roc_epoch.specs.Growth.{IsGrowth}
@@ -29,7 +29,7 @@ use Rattle.roc_auditor.specs.declared.verdict.Verdict.TheVariants.{Judged}
 use Rattle.roc_auditor.specs.Verdict.{HaveNoGap, IsVerdict}
 use Rattle.roc_law_audit.specs.InTheWorld.{SubmitsNoView}
 use Rattle.roc_law_audit.specs.LogsOfRuns.{AreLogsOfRun}
-use Rattle.roc_report.specs.Line.{Line}
+use Rattle.roc_report.specs.Checked.{CheckedLine}
 use Rattle.roc_report.specs.ReportLine.{HasNames}
 use Rattle.roc_report.specs.Reading.{IsReadInOneWay}
 use Rattle.roc_check.specs.Checked.{IsTextOf, IsPlanOf, IsPlanOfText, IsRefusedBy}
@@ -47,7 +47,7 @@ pub record TextLaws : Type 0 where
   pub no_fault : (bytes : List ℕ) (t : Tree) (line : ℕ) (what : What) → IsWorkloadText bytes t → IsFirstFault bytes line what → ⊥
   pub one_plan : (bytes : List ℕ) (one other : Plan) → IsPlanOfText bytes one → IsPlanOfText bytes other → one ≡ other
   pub accepted : (bytes : List ℕ) (plan : Plan) → IsPlanOfText bytes plan → IsAccepted plan
-  pub no_refusal : (program : Workload) (plan : Plan) (line : Line) → IsPlanOf program plan → IsRefusedBy program line → ⊥
+  pub no_refusal : (program : Workload) (plan : Plan) (line : CheckedLine) → IsPlanOf program plan → IsRefusedBy program line → ⊥
   pub no_cluster_fault :
       (shards : ℕ) (bytes : List ℕ) (cluster : List Addr) (fault : ClusterFault) → IsClusterFile shards bytes cluster → IsClusterFault shards bytes fault
       → fault ≡ NoMemory

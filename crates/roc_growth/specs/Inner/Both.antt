@@ -2,9 +2,9 @@
 use Rattle.std.specs.Prelude.{ℕ, List, Option}
 use Rattle.roc_plan.specs.Groups.{Plan}
 use Rattle.roc_plan.specs.Accepted.{IsAccepted}
-use Rattle.roc_views.specs.World.{first_beginning}
-use Rattle.roc_views.specs.Beginnings.{IsViewBeginning}
-use Rattle.roc_views.specs.Fits.{FitsWorld}
+use Rattle.roc_law_world.specs.World.{first_beginning}
+use Rattle.roc_law_world.specs.Beginnings.{IsViewBeginning}
+use Rattle.roc_law_world.specs.Fits.{FitsWorld}
 use Rattle.roc_epoch.specs.declared.next.Next.{Next}
 use Rattle.roc_epoch.specs.Files.{last_plan}
 use Rattle.roc_epoch.specs.Grown.{IsGrownFrom}

@@ -4,7 +4,7 @@ use Rattle.roc_base.specs.declared.id.TxnId.{TxnId}
 use Rattle.roc_base.specs.declared.node.Node.TheVariants.{Server}
 use Rattle.roc_base.specs.declared.node.Shard.{Shard}
 use Rattle.roc_plan.specs.Groups.{Plan}
-use Rattle.roc_protocol.specs.Happens.{RanAt}
+use Rattle.roc_law_protocol.specs.Happens.{RanAt}
 use Rattle.roc_epoch.specs.declared.next.Next.{Next}
 use Rattle.roc_two_files.specs.Sealed.{Sealed}
 use Rattle.roc_grown.specs.Server.{GrownServerState, GrownStep, GrownHandles, restarted, grown_server_tick}

@@ -6,11 +6,11 @@ use Rattle.roc_plan.specs.Groups.{Plan}
 use Rattle.roc_plan.specs.Accepted.{IsAccepted}
 use Rattle.roc_audit.specs.History.{WasSubmitted}
 use Rattle.roc_audit.specs.Order.{noted}
-use Rattle.roc_protocol.specs.declared.event.Event.{Event as TheirEvent}
-use Rattle.roc_views.specs.World.{World, Beginning}
-use Rattle.roc_views.specs.Beginnings.{IsViewBeginning}
-use Rattle.roc_views.specs.Happens as happen
-use Rattle.roc_views.specs.Run as views
+use Rattle.roc_law_protocol.specs.declared.event.Event.{Event as TheirEvent}
+use Rattle.roc_law_world.specs.World.{World, Beginning}
+use Rattle.roc_law_world.specs.Beginnings.{IsViewBeginning}
+use Rattle.roc_law_world.specs.Happens as happen
+use Rattle.roc_law_world.specs.Run as views
 use Rattle.roc_two_files.specs.Left.{AreDrained, left_behind}
 use Rattle.roc_growth.proofs.Orders.{noted_behind, has_noted, submitted_all}
 use Rattle.roc_growth.proofs.Phases.{Laws}

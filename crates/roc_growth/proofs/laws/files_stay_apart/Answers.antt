@@ -1,4 +1,4 @@
-use Rattle.roc_views.specs.World.{first_beginning}
+use Rattle.roc_law_world.specs.World.{first_beginning}
 use Rattle.roc_epoch.specs.Files.{last_plan}
 use Rattle.roc_growth.proofs.Headline.{in_turn}
 use Rattle.roc_growth.proofs.laws.files_stay_apart.Goals as goal

@@ -1,5 +1,5 @@
 use Rattle.std.proofs.Common.{arith}
-use Rattle.roc_views.specs.World.{first_beginning}
+use Rattle.roc_law_world.specs.World.{first_beginning}
 use Rattle.roc_epoch.specs.Files.{last_plan}
 use Rattle.roc_two_files.specs.Left.{left_behind}
 use Rattle.roc_growth.proofs.Kept.{first_tells, second_tells, gone, kept, used}

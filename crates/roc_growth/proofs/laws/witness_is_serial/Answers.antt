@@ -1,4 +1,4 @@
-use Rattle.roc_views.specs.World.{first_beginning}
+use Rattle.roc_law_world.specs.World.{first_beginning}
 use Rattle.roc_epoch.specs.Files.{last_plan}
 use Rattle.roc_growth.proofs.Headline.{serial, filed_so}
 use Rattle.roc_growth.proofs.laws.witness_is_serial.Goals as goal

@@ -1,4 +1,4 @@
-use Rattle.roc_views.specs.World.{first_beginning}
+use Rattle.roc_law_world.specs.World.{first_beginning}
 use Rattle.roc_epoch.specs.Files.{last_plan}
 use Rattle.roc_two_files.specs.Left.{left_behind}
 use Rattle.roc_growth.proofs.Answering.{view_answered}

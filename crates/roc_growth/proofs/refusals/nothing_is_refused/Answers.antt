@@ -2,9 +2,9 @@ use Rattle.std.proofs.Common.{◌≡◌, ◌∙◌, ℕ, false, List, None, Opti
 use Rattle.roc_sequence.specs.Lists.{Has}
 use Rattle.roc_msg.specs.declared.msg.Envelope.{Envelope}
 use Rattle.roc_plan.specs.Groups.{Plan}
-use Rattle.roc_views.specs.World.{World, first_beginning}
-use Rattle.roc_views.specs.Run as views
-use Rattle.roc_views.proofs.SameNodes.{run_count}
+use Rattle.roc_law_world.specs.World.{World, first_beginning}
+use Rattle.roc_law_world.specs.Run as views
+use Rattle.roc_law_world.proofs.SameNodes.{run_count}
 use Rattle.roc_epoch.specs.declared.next.Next.{Next}
 use Rattle.roc_epoch.specs.Files.{is_between, last_plan}
 use Rattle.roc_two_files.specs.Left.{left_behind}

@@ -1,7 +1,7 @@
 use Rattle.std.proofs.Common.{◌∙◌}
-use Rattle.roc_protocol.specs.Beginnings as protocol
-use Rattle.roc_protocol.specs.Kept.{ran_in}
-use Rattle.roc_views.specs.World.{first_beginning}
+use Rattle.roc_law_protocol.specs.Beginnings as protocol
+use Rattle.roc_law_protocol.specs.Kept.{ran_in}
+use Rattle.roc_law_world.specs.World.{first_beginning}
 use Rattle.roc_law_audit.specs.InTheWorld.{all_ran}
 use Rattle.roc_law_audit.proofs.Explained.{judged_yes}
 use Rattle.roc_law_audit.proofs.Beside.{no_view, tells_none, all_stay, ran_alike, same_run}

@@ -1,4 +1,4 @@
-use Rattle.roc_views.specs.World.{first_beginning}
+use Rattle.roc_law_world.specs.World.{first_beginning}
 use Rattle.roc_law_nodes.proofs.Going.{going_on}
 use Rattle.roc_law_nodes.proofs.Spelled.{spelled_is_caused}
 use Rattle.roc_law_nodes.proofs.laws.caused_events_have_turns.Goals as goal

@@ -1,6 +1,6 @@
 use Rattle.std.proofs.Common.{refl}
 use Rattle.roc_kept.specs.Laws.{HaveOutcomes}
-use Rattle.roc_protocol.proofs.Findings.{decided_there, handled}
+use Rattle.roc_law_protocol.proofs.Findings.{decided_there, handled}
 use Rattle.roc_step.specs.Reads.{reads_behind}
 use Rattle.roc_law_nodes.proofs.laws.files_recover_or_are_refused.Goals as goal
 

@@ -1,8 +1,8 @@
 use Rattle.std.proofs.Common.{List, subst}
 use Rattle.roc_audit.specs.declared.entry.Entry.{Entry}
 use Rattle.roc_audit.specs.Witness.{IsSerialWitness}
-use Rattle.roc_views.specs.Witness.{witness_of}
-use Rattle.roc_views.specs.World.{first_beginning}
+use Rattle.roc_law_world.specs.Witness.{witness_of}
+use Rattle.roc_law_world.specs.World.{first_beginning}
 use Rattle.roc_law_nodes.proofs.laws.interleaved_nodes_are_serial.Goals as goal
 
 pub returns : goal.returns

@@ -3,7 +3,7 @@ use Rattle.roc_base.specs.declared.node.Node.{Node}
 use Rattle.roc_base.specs.declared.node.Node.TheVariants.{Server, Coord}
 use Rattle.roc_log.specs.declared.line.LogLine.{LogLine}
 use Rattle.roc_node.specs.NodeEvent.{node_setting}
-use Rattle.roc_views.specs.World.{first_world}
+use Rattle.roc_law_world.specs.World.{first_world}
 use Rattle.roc_law_audit.specs.LogsOfRuns.{AreAllLogged}
 use Rattle.roc_law_nodes.specs.Logs.{LogsInRun, by_server, by_coord}
 use Rattle.roc_law_nodes.proofs.logs.logs_of_nodes_are_the_runs.Goals as goal

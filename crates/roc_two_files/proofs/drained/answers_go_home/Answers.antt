@@ -10,17 +10,17 @@ use Rattle.roc_whole.specs.Serial as whole
 use Rattle.roc_group.specs.GroupRun.{call}
 use Rattle.roc_plan.specs.Groups.{groups_of, is_view_of}
 use Rattle.roc_law_log.specs.Scheme.{Scheme, IsSoundScheme}
-use Rattle.roc_protocol.specs.PlanAssumptions.{HasSchemesFrom}
+use Rattle.roc_law_protocol.specs.PlanAssumptions.{HasSchemesFrom}
 use Rattle.roc_law_log.proofs.Following.{AreFound}
 use Rattle.roc_audit.specs.Witness.{IsSerialWitnessFrom}
 use Rattle.roc_audit.specs.Woven.{without_views}
-use Rattle.roc_protocol.proofs.Logged.{ordered_submitted}
-use Rattle.roc_protocol.proofs.Serial.{call_in}
-use Rattle.roc_protocol.proofs.Transactions.{transaction_or_none}
-use Rattle.roc_views.proofs.Readings.{ViewLaws, AreSteady}
-use Rattle.roc_views.proofs.ViewLogs.{logged_beside}
-use Rattle.roc_views.proofs.WovenOrder.{is_view, called_in, tells, tells_them, run_beside, alone, IsCalled, transactions_called}
-use Rattle.roc_views.proofs.ViewsAlone.{next_call, views_called}
+use Rattle.roc_law_protocol.proofs.Logged.{ordered_submitted}
+use Rattle.roc_law_protocol.proofs.Serial.{call_in}
+use Rattle.roc_law_protocol.proofs.Transactions.{transaction_or_none}
+use Rattle.roc_law_world.proofs.Readings.{ViewLaws, AreSteady}
+use Rattle.roc_law_world.proofs.ViewLogs.{logged_beside}
+use Rattle.roc_law_world.proofs.WovenOrder.{is_view, called_in, tells, tells_them, run_beside, alone, IsCalled, transactions_called}
+use Rattle.roc_law_world.proofs.ViewsAlone.{next_call, views_called}
 use Rattle.roc_two_files.specs.Home.{GoesHome}
 use Rattle.roc_two_files.proofs.Bare.{bare_home}
 use Rattle.roc_two_files.proofs.Home.{goes_home}

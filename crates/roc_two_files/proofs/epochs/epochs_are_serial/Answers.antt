@@ -2,7 +2,7 @@ use Rattle.std.proofs.Common.{◌++◌, ap, sym, subst}
 use Rattle.roc_rows.specs.Store.{Store, empty}
 use Rattle.roc_whole.specs.Serial.{after_inits}
 use Rattle.roc_audit.specs.Witness.{IsSerialWitnessFrom}
-use Rattle.roc_views.specs.World.{first_beginning}
+use Rattle.roc_law_world.specs.World.{first_beginning}
 use Rattle.roc_two_files.specs.Left.{left_behind}
 use Rattle.roc_two_files.specs.Orders.{witness_of_both}
 use Rattle.roc_two_files.proofs.TwoRuns.{serial}

@@ -1,6 +1,6 @@
 use Rattle.std.proofs.Common.{option_copied, length, subst}
 use Rattle.std.proofs.lemmas.Result.{IfOk-weaker}
-use Rattle.roc_protocol.specs.Fits.{IsNode}
+use Rattle.roc_law_protocol.specs.Fits.{IsNode}
 use Rattle.roc_two_files.specs.Sealed.{Sealed}
 use Rattle.roc_world.specs.Inner.Parts.{world_of}
 use Rattle.roc_world.proofs.Sealings.{sealed_there, receiver_is_here}

@@ -1,6 +1,6 @@
 use Rattle.std.proofs.Common.{option_copied, Some, sym, subst}
 use Rattle.std.proofs.lemmas.Result.{IfOk-weaker}
-use Rattle.roc_protocol.specs.declared.event.Kept.{Kept}
+use Rattle.roc_law_protocol.specs.declared.event.Kept.{Kept}
 use Rattle.roc_growth.specs.declared.event.Event.TheVariants as event
 use Rattle.roc_world.specs.Inner.Parts.{world_of, Leads}
 use Rattle.roc_world.proofs.Events.{stops_unrecorded, stops_recorded}

@@ -3,7 +3,7 @@ use Rattle.std.proofs.Common.{◌≡◌, take}
 use Rattle.std.specs.BTreeSet.{contains}
 use Rattle.roc_base.specs.declared.id.TxnId.{TxnId}
 use Rattle.roc_base.specs.TxnId.{txn_cmp}
-use Rattle.roc_views.specs.Witness.{was_answered}
+use Rattle.roc_law_world.specs.Witness.{was_answered}
 use Rattle.roc_world.proofs.witness.answered_ids.Given as goal
 
 abbrev pub invariant-loop-entry : goal.invariant-loop-entry

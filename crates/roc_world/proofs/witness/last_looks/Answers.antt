@@ -3,7 +3,7 @@ use Rattle.std.specs.BTreeSet.{contains}
 use Rattle.std.specs.Ordering.{is_eq}
 use Rattle.roc_base.specs.declared.id.TxnId.{TxnId}
 use Rattle.roc_base.specs.TxnId.{txn_cmp}
-use Rattle.roc_views.specs.Witness.{last_looks}
+use Rattle.roc_law_world.specs.Witness.{last_looks}
 use Rattle.roc_world.specs.Inner.Looks.{looked}
 use Rattle.roc_world.proofs.Woven.{no_look, again_in, again_more, look_more, look_apart, look_again, turned_round}
 use Rattle.roc_world.proofs.witness.last_looks.Goals.{then-contains+then-not-contains+in_ok-push, else-contains, else-contains-via-then-contains+else-not-contains, else-contains-via-else-contains}

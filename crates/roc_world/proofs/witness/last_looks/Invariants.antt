@@ -3,7 +3,7 @@ use Rattle.std.proofs.Common.{◌≡◌, map, drop, reverse}
 use Rattle.std.specs.BTreeSet.{contains}
 use Rattle.roc_base.specs.declared.id.TxnId.{TxnId}
 use Rattle.roc_base.specs.TxnId.{txn_cmp}
-use Rattle.roc_views.specs.Witness.{last_looks}
+use Rattle.roc_law_world.specs.Witness.{last_looks}
 use Rattle.roc_world.specs.Inner.Looks.{looked}
 use Rattle.roc_world.proofs.Woven.{again_in}
 use Rattle.roc_world.proofs.witness.last_looks.Given as goal

@@ -1,5 +1,0 @@
-use Rattle.roc_views.proofs.WovenOrder.{prefix}
-use Rattle.roc_views.proofs.beginnings.views_read_a_prefix.Goals as goal
-
-pub returns : goal.returns
-returns c plan b coords steps w accepted begins run = let f = c.looks_fit.ensures plan b coords steps w accepted begins run in prefix plan b coords steps w run f.0 f.1 f.4 f.5

@@ -1,5 +1,0 @@
-use Rattle.roc_views.proofs.AnyWorld.{order_grows}
-use Rattle.roc_views.proofs.worlds.the_order_grows.Goals as goal
-
-pub returns : goal.returns
-returns c = order_grows
