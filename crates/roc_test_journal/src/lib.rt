@@ -4,7 +4,11 @@
 #[cfg(test)]
 mod appends;
 #[cfg(test)]
+mod disks;
+#[cfg(test)]
 mod reads;
+#[cfg(test)]
+mod same;
 
 #[cfg(test)]
 const TAG: [u8; 8] = [1, 2, 3, 4, 5, 6, 7, 8];

@@ -2,21 +2,28 @@
 ghost use Rattle.std.specs.Prelude.{◌≡◌, ℕ, true, List, Some, length};
 ghost use Rattle.roc_journal.specs.Reading.{IsGateWithin};
 
+use crate::disks::{Way, failing, ways, whole};
+use crate::same::same;
 use crate::{EMPTY, ONE, TAG};
 use roc_disk::Disk;
-use roc_disk_memory::{MemDisk, Tear};
-use roc_journal::{ReadFault, Reader};
+use roc_disk_memory::MemDisk;
+use roc_journal::{ReadFault, Reader, Record};
 use std::alloc::Global;
 use std::process::Abort;
 use std::test::Fail;
 
-// A disk with a synced file of these bytes, which fails at some calls and stops at one. These are its calls 1 to 3.
-fn holding(alloc: Global, bytes: &[u8], failing: Vec<u64>, stop: u64, tear: Tear) -> MemDisk {
-    let mut disk = MemDisk::new(alloc, failing, stop, tear);
+// Gives an empty disk a synced file of these bytes. These are its calls 1 to 3.
+fn hold(disk: &mut MemDisk, bytes: &[u8]) {
     disk.open("journal");
     disk.write_at(0, bytes);
     disk.sync();
-    disk
+}
+
+fn is_record(next: &Result<Option<(u64, Record)>, ReadFault>) -> Result<bool, ReadFault> {
+    match next {
+        Err(fault) => Err(*fault),
+        Ok(found) => Ok(found.is_some()),
+    }
 }
 
 // Whether there is one record more.
@@ -26,11 +33,8 @@ fn has_more<D: Disk>(alloc: Global, reader: &mut Reader, disk: &mut D) -> Result
     ensures within { IsGateWithin reader.new }
     ensures len { D.tells disk.new ≡ true → (name : List ℕ) → D.file disk.new ≡ Some name → reader.new.len ≡ length (D.content disk.new name) }
 {
-    match reader.next(alloc, disk) {
-        Err(fault) => Err(fault),
-        Ok(None) => Ok(false),
-        Ok(Some(_)) => Ok(true),
-    }
+    let next = reader.next(alloc, disk);
+    is_record(&next)
 }
 
 // Reads up to two records: how many there are, or that the disk failed when the rest was cut.
@@ -78,13 +82,25 @@ pub(crate) fn count<D: Disk>(alloc: Global, disk: &mut D) -> Result<u64, ReadFau
 
 // The same of these bytes, as they are found after a stop.
 pub(crate) fn count_of(alloc: Global, bytes: &[u8]) -> Result<u64, ReadFault> {
-    count(
-        alloc,
-        &mut holding(alloc, bytes, Vec::new(alloc), u64::MAX, Tear::Nothing),
-    )
+    let mut disk = whole(alloc);
+    hold(&mut disk, bytes);
+    count(alloc, &mut disk)
 }
 
-fn reads_heads(rt: &impl Abort, alloc: Global) -> Result<(), Fail> {
+// What is found of each file.
+fn reads_files(rt: &impl Abort, alloc: Global, files: &[(&[u8], Result<u64, ReadFault>)]) {
+    for file in files {
+        same(
+            rt,
+            "the records of a file",
+            &count_of(alloc, file.0),
+            &file.1,
+        );
+    }
+}
+
+#[test]
+fn a_head_is_judged_at_its_places(rt: HostRuntime) {
     let files: [(&[u8], Result<u64, ReadFault>); 8] = [
         (b"", Ok(0)),
         (EMPTY, Ok(0)),
@@ -101,15 +117,7 @@ fn reads_heads(rt: &impl Abort, alloc: Global) -> Result<(), Fail> {
         ),
         (&EMPTY[..12], Err(ReadFault::Journal(12))),
     ];
-    for (bytes, found) in files {
-        assert_eq!(rt; count_of(alloc, bytes), found);
-    }
-    Ok(())
-}
-
-#[test]
-fn a_head_is_judged_at_its_places(rt: HostRuntime) -> Result<(), Fail> {
-    reads_heads(&rt, rt.alloc())
+    reads_files(&rt, rt.alloc(), &files);
 }
 
 // The journal of one record, with another byte at a place.
@@ -123,13 +131,30 @@ fn changed(alloc: Global, at: usize, byte: u8) -> Result<u64, ReadFault> {
     count_of(alloc, &bytes)
 }
 
-fn reads_records(rt: &impl Abort, alloc: Global) -> Result<(), Fail> {
+// A place, another byte there, and what is then found.
+type Change = (usize, u8, Result<u64, ReadFault>);
+
+fn reads_changed(rt: &impl Abort, alloc: Global, changes: &[Change]) {
+    for change in changes {
+        same(
+            rt,
+            "the records of a changed file",
+            &changed(alloc, change.0, change.1),
+            &change.2,
+        );
+    }
+}
+
+#[test]
+fn a_bad_record_is_told_at_its_length(rt: HostRuntime) {
     let bad = Err(ReadFault::Journal(13));
-    assert_eq!(rt; count_of(alloc, ONE), Ok(1));
-    assert_eq!(rt; count_of(alloc, &ONE[..16]), bad);
-    assert_eq!(rt; count_of(alloc, &ONE[..ONE.len() - 1]), bad);
+    let files: [(&[u8], Result<u64, ReadFault>); 3] = [
+        (ONE, Ok(1)),
+        (&ONE[..16], bad),
+        (&ONE[..ONE.len() - 1], bad),
+    ];
     // a gate that is closed, lengths that are one more, one less and far too long, a datagram of another tag, and an open gate behind the record
-    let changes = [
+    let changes: [Change; 6] = [
         (12, 2, Ok(0)),
         (16, 18, bad),
         (16, 16, bad),
@@ -137,30 +162,39 @@ fn reads_records(rt: &impl Abort, alloc: Global) -> Result<(), Fail> {
         (24, 9, bad),
         (34, 1, Err(ReadFault::Journal(35))),
     ];
-    for (at, byte, found) in changes {
-        assert_eq!(rt; changed(alloc, at, byte), found);
+    reads_files(&rt, rt.alloc(), &files);
+    reads_changed(&rt, rt.alloc(), &changes);
+}
+
+// Reads a journal of one record, with bytes behind it, and cuts these, by the calls 4 to 13, of which one fails or stops.
+fn fails(rt: &impl Abort, alloc: Global, bytes: &[u8], disk: &mut MemDisk) {
+    hold(disk, bytes);
+    same(rt, "the count", &count(alloc, disk), &Err(ReadFault::Disk));
+    same(
+        rt,
+        "the records that are left",
+        &count_of(alloc, disk.image()),
+        &Ok(1),
+    );
+}
+
+fn fails_at(rt: &impl Abort, alloc: Global, bytes: &[u8], way: Way) -> Result<(), Fail> {
+    let mut disk = failing(alloc, way)?;
+    fails(rt, alloc, bytes, &mut disk);
+    Ok(())
+}
+
+fn fails_each_way(rt: &impl Abort, alloc: Global, bytes: &[u8], ways: &[Way]) -> Result<(), Fail> {
+    for way in ways {
+        fails_at(rt, alloc, bytes, *way)?;
     }
     Ok(())
 }
 
-#[test]
-fn a_bad_record_is_told_at_its_length(rt: HostRuntime) -> Result<(), Fail> {
-    reads_records(&rt, rt.alloc())
-}
-
-// Reads a journal of one record, with bytes behind it, and cuts these, by the calls 4 to 13, of which one fails or stops.
-fn fails_reading(
-    rt: &impl Abort,
-    alloc: Global,
-    bytes: &[u8],
-    failing: u64,
-    stop: u64,
-    tear: Tear,
-) -> Result<(), Fail> {
-    let failing: Vec<u64> = vec![in alloc; failing; 1]?;
-    let mut disk = holding(alloc, bytes, failing, stop, tear);
-    assert_eq!(rt; count(alloc, &mut disk), Err(ReadFault::Disk));
-    assert_eq!(rt; count_of(alloc, disk.image()), Ok(1));
+fn fails_each_call(rt: &impl Abort, alloc: Global, bytes: &[u8]) -> Result<(), Fail> {
+    for call in 4..14 {
+        fails_each_way(rt, alloc, bytes, &ways(call))?;
+    }
     Ok(())
 }
 
@@ -168,12 +202,5 @@ fn fails_reading(
 fn a_stop_while_reading_leaves_the_records(rt: HostRuntime) -> Result<(), Fail> {
     let mut bytes = ONE.to_vec(rt.alloc())?;
     bytes.extend_from_slice(b"torn")?;
-    for call in 4..14 {
-        fails_reading(&rt, rt.alloc(), &bytes, call, u64::MAX, Tear::Half)?;
-        fails_reading(&rt, rt.alloc(), &bytes, 0, call, Tear::Nothing)?;
-        fails_reading(&rt, rt.alloc(), &bytes, 0, call, Tear::Half)?;
-        fails_reading(&rt, rt.alloc(), &bytes, 0, call, Tear::Whole)?;
-        fails_reading(&rt, rt.alloc(), &bytes, 0, call, Tear::Other(1))?;
-    }
-    Ok(())
+    fails_each_call(&rt, rt.alloc(), &bytes)
 }
