@@ -1,14 +1,12 @@
 //! Lists of predecessors, united by id.
-ghost use Rattle.std.specs.Prelude.{◌≡◌, ◌≤◌, ◌<◌, ◌+◌, ◌++◌, ◌↔◌, ◌==◌, [], filter, length, not, vec_len, IsTrue, IfOk, IfErr, OnOk, OnErr};
+ghost use Rattle.std.specs.Prelude.{◌≡◌, ◌≤◌, ◌<◌, ◌+◌, ◌++◌, ◌↔◌, ◌==◌, [], length, vec_len, IsTrue, IfOk, IfErr, OnOk, OnErr};
 ghost use Rattle.std.specs.Vec.{vec_capacity};
 ghost use Rattle.roc_base.specs.declared.id.TxnId.{TxnId};
-ghost use Rattle.roc_base.specs.TxnId.{is_txn};
-ghost use Rattle.roc_sequence.specs.Places.{is_listed};
 ghost use Rattle.roc_base.specs.Edges.{IsEdgeList, comes_before, entry_at, all_of, unite_one, united};
 ghost use Rattle.roc_sequence.specs.Rising.{IsRising};
 ghost use Rattle.roc_base.specs.Inner.Place.{entry_place, IsAt, IsGapFor};
 
-use crate::{Edge, NoMemory, TxnId, is_among};
+use crate::{Edge, NoMemory, TxnId};
 use roc_sequence::Shared;
 use std::alloc::{AllocError, Global};
 use std::marker::Model;
@@ -87,17 +85,6 @@ impl Edges {
         put_all(&mut entries, added);
         self.entries = Shared::from_vec(entries);
         Ok(())
-    }
-
-    /// The list without the entries of these ids, which should be few: each entry is compared with all of them.
-    pub fn without(&self, ids: &[TxnId]) -> Result<Edges, NoMemory>
-        ensures { IfOk result (λ list. list ≡ filter (λ d. not (is_listed is_txn ids.now d.from)) self.now) }
-    {
-        let mut list = self.clone()?;
-        let mut entries = list.entries.take(0)?;
-        leave_out(&mut entries, ids);
-        list.entries = Shared::from_vec(entries);
-        Ok(list)
     }
 }
 
@@ -190,13 +177,4 @@ fn put(edges: &mut Vec<Edge>, edge: Edge)
         Ok(at) => edges[at] = edge.joined(edges[at]),
         Err(at) => edges.insert(at, edge).unwrap(),
     }
-}
-
-// The entries of other ids than these stay.
-fn leave_out(edges: &mut Vec<Edge>, ids: &[TxnId])
-    requires { IsEdgeList edges.old.items }
-    ensures items { edges.new.items ≡ filter (λ d. not (is_listed is_txn ids.now d.from)) edges.old.items }
-    ensures list { IsEdgeList edges.new.items }
-{
-    edges.retain(|edge| !is_among(ids, edge.from()));
 }

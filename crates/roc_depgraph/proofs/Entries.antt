@@ -59,8 +59,3 @@ known_by-remove_entry id (e ∷ es) none = go (is_txn id e.0) refl none (known_b
     go false h n ih =
         let rest : lookup (is_txn id) (remove_entry (is_txn id) es) ≡ None = ap (λ b. cond b (Some e.1) (lookup (is_txn id) (remove_entry (is_txn id) es))) (sym h) ∙ n in
         ap (λ ks. k ∷ ks) (ih rest) ∙ ap (λ b. cond (not b) (k ∷ left) left) (sym (is_txn-turned e.0 id ∙ h))
-
--- entries are left out of each list
-pub known_by-left_out : (p : Dependency → Bool) (es : List (TxnId × List Dependency)) → known_by (map (λ e. (e.0, filter p e.1)) es) ≡ map (λ k. record { of = k.of; edges = filter p k.edges }) (known_by es)
-known_by-left_out p [] = refl
-known_by-left_out p (e ∷ es) = ap (λ ks. record { of = e.0; edges = filter p e.1 } ∷ ks) (known_by-left_out p es)

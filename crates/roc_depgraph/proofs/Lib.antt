@@ -8,6 +8,3 @@ pub mod RisingLists
 pub mod Searched
 pub mod RisingIds
 pub mod Entries
-pub mod LeftOut
-pub mod Marked
-pub mod Finding

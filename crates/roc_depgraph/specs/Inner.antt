@@ -1,4 +1,2 @@
 -- What stands here is of private parts alone
 pub mod Entries
-pub mod Chunks
-pub mod Left

@@ -1,22 +1,17 @@
 //! The known lists, and what follows from them.
-ghost use Rattle.std.specs.Prelude.{◌≡◌, ◌<◌, [], None, not, map, IfOk, OnOk, OnErr, filter, length};
-ghost use Rattle.std.specs.List.{list_any};
+ghost use Rattle.std.specs.Prelude.{◌≡◌, [], None, not, IfOk, OnOk, OnErr, filter};
 ghost use Rattle.std.specs.Option.{option_copied};
 ghost use Rattle.roc_base.specs.TxnId.{is_txn};
-ghost use Rattle.roc_sequence.specs.Places.{is_listed};
 ghost use Rattle.roc_depgraph.specs.Closure.{IsClosure, IsRisingListOf};
 ghost use Rattle.roc_depgraph.specs.Deps.{list_of, is_known, IsKnown, Precedes};
 ghost use Rattle.roc_depgraph.specs.Learnt.{Learns};
 ghost use Rattle.roc_depgraph.specs.Inner.Entries.{known_by};
-ghost use Rattle.roc_depgraph.specs.Inner.Left.{IsLeftAt};
 ghost use Rattle.roc_depgraph.specs.Reach.{ReachesOrIs};
-ghost use Rattle.roc_depgraph.specs.Relisted.{relisted, with_list};
 ghost use Rattle.roc_depgraph.specs.Visits.{Visits};
 
-use crate::{Closure, Learnt, Relisted};
+use crate::{Closure, Learnt};
 use indexmap::IndexMap;
-use roc_base::{Edge, Edges, NoMemory, TxnId, is_among};
-use roc_sequence::Sequence;
+use roc_base::{Edge, Edges, NoMemory, TxnId};
 use std::alloc::Global;
 use std::collections::BTreeSet;
 use std::marker::Model;
@@ -81,43 +76,6 @@ impl Deps {
         self.lists.shift_remove(&id);
     }
 
-    /// The lists that have entries of these ids, which should be few, without these entries. A list stays known where no entry is left.
-    pub fn left_out(&self, ids: &[TxnId]) -> Result<Sequence<Relisted>, NoMemory>
-        ensures { IfOk result (λ rows. relisted rows self.now ≡ map (λ k. record { of = k.of; edges = filter (λ d. not (is_listed is_txn ids.now d.from)) k.edges }) self.now) }
-    {
-        let mut rows = Sequence::new(self.alloc);
-        for at in 0..self.lists.len() {
-            if let Some(edges) = self.left_at(at, ids)? {
-                rows.push(Relisted { at, edges })?;
-            }
-        }
-        Ok(rows)
-    }
-
-    // The list at a place without the entries of these ids, where it has one.
-    fn left_at(&self, at: usize, ids: &[TxnId]) -> Result<Option<Edges>, NoMemory>
-        requires { at < length self.now }
-        ensures { IfOk result (IsLeftAt ids.now self.now at) }
-    {
-        let Some((_id, edges)) = self.lists.get_index(at) else {
-            return Ok(None);
-        };
-        if !names_any(edges, ids) {
-            return Ok(None);
-        }
-        let left = edges.without(ids)?;
-        Ok(Some(left))
-    }
-
-    /// Puts lists into the places of others, one after another. Takes no memory.
-    pub fn relist(&mut self, rows: Sequence<Relisted>)
-        ensures { self.new ≡ relisted rows self.old }
-    {
-        for row in rows.into_vec() {
-            relist_one(&mut self.lists, row);
-        }
-    }
-
     /// The transaction and its ancestors, where all their lists are known; else what is missing.
     /// `NoMemory` comes where there is none for what was found.
     pub fn closure(&self, id: TxnId) -> Result<Closure, NoMemory>
@@ -178,24 +136,4 @@ pub fn visit(
         }
     }
     Ok(())
-}
-
-// Whether a list has an entry of one of these ids.
-fn names_any(edges: &Edges, ids: &[TxnId]) -> bool
-    ensures { result ≡ list_any (λ d. is_listed is_txn ids.now d.from) edges.now }
-{
-    edges
-        .as_slice()
-        .iter()
-        .any(|edge| is_among(ids, edge.from()))
-}
-
-// Puts a list into the place of another.
-fn relist_one(lists: &mut IndexMap<TxnId, Edges>, row: Relisted)
-    ensures { known_by lists.new.entries ≡ with_list row.at row.edges (known_by lists.old.entries) }
-{
-    let Relisted { at, edges } = row;
-    if let Some(list) = lists.get_index_mut(at) {
-        *list = edges;
-    }
 }

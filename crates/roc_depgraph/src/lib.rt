@@ -4,25 +4,19 @@
 //!
 //! The layers above may rely on this: no list that is learnt changes one that is known, and [`Deps::learn`] tells an
 //! unlike list apart from an equal one (`specs/Learnt.antt`); [`Deps::undo`] takes a list back without memory;
-//! [`Deps::left_out`] finds the lists without entries of some ids, and [`Deps::relist`] puts them into the places of
-//! those that are known, without memory (`specs/Relisted.antt`); [`Deps::closure`] answers `Whole` exactly if a transaction is
+//! [`Deps::closure`] answers `Whole` exactly if a transaction is
 //! decided, with it and all its ancestors, and else exactly what is reached and unknown (`specs/Closure.antt`). A
-//! [`KnownList`] is also what travels along with messages. [`is_among_rising`] is membership in a list that rises. An
-//! [`IdSet`] has what a search has found, and [`visit_ids`] puts more in it (`specs/Finds.antt`).
+//! [`KnownList`] is also what travels along with messages. [`is_among_rising`] is membership in a list that rises.
 #![tactic(auto)]
 
 mod among;
 mod closure;
 mod deps;
-mod id_set;
 mod known;
 mod learnt;
-mod relisted;
 
 pub use among::is_among_rising;
 pub use closure::Closure;
 pub use deps::{Deps, visit};
-pub use id_set::{IdSet, visit_ids};
 pub use known::KnownList;
 pub use learnt::Learnt;
-pub use relisted::Relisted;
