@@ -12,6 +12,8 @@ impl Sink for Unseen {
 
     ghost taken = { λ s. None };
 
+    ghost pieces = { λ s. None };
+
     fn write(&mut self, _piece: &[u8]) -> Written {
         Written::Ok
     }

@@ -5,6 +5,7 @@ ghost use Rattle.roc_io.specs.Call.{link_call, sink_call};
 ghost use Rattle.roc_io.specs.Cause.{HasCause};
 ghost use Rattle.roc_io.specs.declared.link.Addr.{Addr};
 ghost use Rattle.roc_node.specs.NodeLine.{node_lines_text, end_lines};
+ghost use Rattle.roc_node_serve.specs.Pieces.{ClosesInPiece, WritesInPieces};
 ghost use Rattle.roc_node_serve.specs.ServeEnd.{first_text, is_end_of_journal, serve_book_failed, serve_link_failed, serve_sink_failed};
 ghost use Rattle.roc_wire.specs.Fits.{FitsHeader};
 ghost use Rattle.roc_grown_node.specs.Setting.{grown_node_setting, grown_setting_of};
@@ -52,6 +53,8 @@ pub fn serve_growing<L: Link, S: Sink>(
     // There is no journal and no log.
     ensures unkept { is_end_of_journal result ≡ false }
     ensures unlogged { serve_book_failed result ≡ false }
+    // The first line goes out in one write, and all last lines in one.
+    ensures pieces { WritesInPieces shard counts (S.pieces out.old) (S.pieces out.new) result }
     // What the node's run gives over the arrivals is what was sent and written.
     ensures serves { (own : Addr) → slice_get cluster.now shard.0 ≡ Some own
         → ServesGrowing (grown_node_setting plan.now tag next.now (node.Server shard) cluster.now) (first_grown_node plan.now shard) shard own turns counts
@@ -96,6 +99,7 @@ fn serve_from<L: Link, S: Sink>(
     requires ready { IsReady (grown_setting_of setting) server_node.old }
     ensures link_cause { HasCause (serve_link_failed result) (L.faults link.old) (L.faults link.new) }
     ensures sink_cause { HasCause (serve_sink_failed result) (S.faults out.old) (S.faults out.new) }
+    ensures pieces { WritesInPieces shard counts (S.pieces out.old) (S.pieces out.new) result }
     ensures unkept { is_end_of_journal result ≡ false }
     ensures unlogged { serve_book_failed result ≡ false }
     ensures serves { (own : Addr) → slice_get setting.entry.cluster.now shard.0 ≡ Some own
@@ -171,6 +175,7 @@ fn close<S: Sink>(
     ensures unkept { is_end_of_journal result ≡ false }
     ensures unlogged { serve_book_failed result ≡ false }
     ensures closes { ClosesServe result (node_lines_text (end_lines shard stopped counts counted.now)) (S.taken out.old) (S.taken out.new) }
+    ensures pieces { ClosesInPiece result (node_lines_text (end_lines shard stopped counts counted.now)) (S.pieces out.old) (S.pieces out.new) }
 {
     let mut text = Vec::new(alloc);
     if append_end(alloc, &mut text, shard, stopped, counts, counted).is_err() {

@@ -5,6 +5,7 @@ use Rattle.roc_grown_node.specs.Setting.{GrownNodeSetting}
 use Rattle.roc_grown_submit.specs.GrownCoordRun.{GrownCoordNodeState, IsGrownCoordRun, as_plain, are_all_answered, grown_step_of_event, grown_reply_lines}
 use Rattle.roc_grown_submit.specs.GrownEnd.{naming, grown_half, grown_written_text, grown_closing_text, AreGrownTurnsOver, SubmitsGrowing, cut_off, wanted, untold_submissions, untold_reply}
 use Rattle.roc_grown_submit.specs.GrownEnd.{untold_end, over}
+use Rattle.roc_grown_submit.specs.GrownPieces.{grown_half_pieces}
 use Rattle.roc_grown_submit.specs.Inner.GrownTurn.{grown_node_of, bare_node, lines_from, lines_then, Seen, Does, HalfSubmits, HalfTakes, GrownRanSo, ClosesGrown}
 use Rattle.roc_grown_submit.specs.declared.coord_node.CoordNode.{CoordNode}
 use Rattle.roc_grown_submit.proofs.Runs.{NamesAlike, each_answered}
@@ -32,7 +33,7 @@ module _ (S : GrownNodeSetting) (number : ℕ) (requests later : List Request) (
   pub submit_half_ends : (e : SubmitEnd) (count : ℕ) (old new : CoordNode) (b c : Seen) → count < turns → GrownRanSo S number requests later count old a b → HalfSubmits (Err e) S requests later old new b c → Ends c e
   submit_half_ends end.NoMemory count old new b c below r h =
       let counted = r.counted in
-      let all = does_still r.traffic [] (lines_text (naming S) r.lines) a b c r.does h in
+      let all = does_still r.traffic [] (lines_text (naming S) r.lines) r.pieces a b c r.does h in
       wanted r.events (grown_node_of old requests later r.messages r.traffic r.lines) false [] r.run (omega arith) (omega arith) all.moves all.told
   submit_half_ends end.SinkFault count old new b c below r h =
       let counted = r.counted in
@@ -49,13 +50,13 @@ module _ (S : GrownNodeSetting) (number : ℕ) (requests later : List Request) (
   half_ends end.NoMemory count mid new c d below h not t =
       let counted = h.counted in
       let few = t.1 in
-      let all = does_still h.traffic (map receiving t.0) (lines_text (naming S) h.lines) a c d h.does t.2 in
+      let all = does_still h.traffic (map receiving t.0) (lines_text (naming S) h.lines) (grown_half_pieces S h.node true h.pieces) a c d h.does t.2 in
       wanted h.events h.node true t.0 h.run few (omega arith)
       (subst (λ l. Moves a.link d.link (l ++ map receiving t.0)) (sym (ap (λ (n : GrownCoordNodeState). n.traffic) h.is)) all.moves)
       (subst (λ l. Adds a.out d.out (lines_text (naming S) l)) (sym (ap (λ (n : GrownCoordNodeState). n.lines) h.is)) all.told)
   half_ends end.LinkFault count mid new c d below h not t =
       let counted = h.counted in
-      let all = does_still h.traffic (receiving vain ∷ []) (lines_text (naming S) h.lines) a c d h.does t in
+      let all = does_still h.traffic (receiving vain ∷ []) (lines_text (naming S) h.lines) (grown_half_pieces S h.node true h.pieces) a c d h.does t in
       cut_off h.events h.node h.run (goes S number requests later count mid a c h false not) (omega arith)
       (subst (λ l. Moves a.link d.link (l ++ receiving vain ∷ [])) (sym (ap (λ (n : GrownCoordNodeState). n.traffic) h.is)) all.moves)
       (subst (λ l. Adds a.out d.out (lines_text (naming S) l)) (sym (ap (λ (n : GrownCoordNodeState). n.lines) h.is)) all.told)
@@ -79,11 +80,12 @@ module _ (S : GrownNodeSetting) (number : ℕ) (requests later : List Request) (
 
   module _ (names : NamesAlike S.plan.program (naming S)) where
     -- whichever half the node is in, it is this one
-    closes_so : (e : SubmitEnd) (events : List NodeEvent) (node : GrownCoordNodeState) (half : Bool) (coord_node : CoordNode) (messages : List Filed) (traffic : List LinkEvent) (lines : List Line) (b : Seen) (out : Option (List ℕ))
+    closes_so : (e : SubmitEnd) (events : List NodeEvent) (node : GrownCoordNodeState) (half : Bool) (coord_node : CoordNode) (messages : List Filed) (traffic : List LinkEvent) (lines : List Line)
+        (pieces : List (List ℕ)) (b : Seen) (out : Option (List ℕ))
         → IsGrownCoordRun S number requests later events node → length events ≤ turns → AreGrownTurnsOver S turns events node half
-        → grown_half S node half ≡ grown_node_of coord_node requests later messages traffic lines → Does traffic (lines_text (naming S) lines) a b
+        → grown_half S node half ≡ grown_node_of coord_node requests later messages traffic lines → Does traffic (lines_text (naming S) lines) pieces a b
         → ClosesGrown e (bare_node coord_node requests later) b.out out → Ends (record b { out = out }) e
-    closes_so e events node half coord_node messages traffic lines b out run few whole is does closes = go e closes
+    closes_so e events node half coord_node messages traffic lines pieces b out run few whole is does closes = go e closes
       where
         last : GrownCoordNodeState
         last = grown_node_of coord_node requests later messages traffic lines
@@ -119,7 +121,7 @@ module _ (S : GrownNodeSetting) (number : ℕ) (requests later : List Request) (
         → ClosesGrown e (bare_node coord_node requests later) b.out out → Ends (record b { out = out }) e
     turns_end e count coord_node b out all r closes =
         let whole : length r.events ≡ turns = r.counted ∙ all in
-        closes_so e r.events (grown_node_of coord_node requests later r.messages r.traffic r.lines) false coord_node r.messages r.traffic r.lines b out r.run (omega arith) whole refl r.does closes
+        closes_so e r.events (grown_node_of coord_node requests later r.messages r.traffic r.lines) false coord_node r.messages r.traffic r.lines r.pieces b out r.run (omega arith) whole refl r.does closes
 
     -- the drain and the submissions before a turn leave all answered
     pub answered_ends : (e : SubmitEnd) (count : ℕ) (old mid : CoordNode) (b c : Seen) (out : Option (List ℕ)) → count < turns → GrownRanSo S number requests later count old a b → HalfSubmits (Ok tt) S requests later old mid b c
@@ -127,4 +129,4 @@ module _ (S : GrownNodeSetting) (number : ℕ) (requests later : List Request) (
     answered_ends e count old mid b c out below r s met closes =
         let h = halved S number requests later count old mid a b c r s in
         let counted = h.counted in
-        closes_so e h.events h.node true mid h.messages h.traffic h.lines c out h.run (omega arith) (omega arith, goes S number requests later count mid a c h true met) h.is h.does closes
+        closes_so e h.events h.node true mid h.messages h.traffic h.lines (grown_half_pieces S h.node true h.pieces) c out h.run (omega arith) (omega arith, goes S number requests later count mid a c h true met) h.is h.does closes

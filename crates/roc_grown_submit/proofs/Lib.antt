@@ -7,3 +7,4 @@ mod Replied
 mod Runs
 mod Turning
 mod Ending
+mod Writing

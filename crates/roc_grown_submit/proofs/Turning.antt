@@ -1,5 +1,5 @@
 -- One turn of a coordinator's node after another
-use Rattle.std.proofs.Common.{◌≡◌, ℕ, ◌+◌, Bool, false, List, [], ◌∷◌, ◌++◌, length, drop, map, refl, sym, ◌∙◌, ap, subst, append-nil, append_assoc, length-append, Option, Result, Ok, Err}
+use Rattle.std.proofs.Common.{◌≡◌, ℕ, ◌+◌, Bool, true, false, List, [], ◌∷◌, ◌++◌, length, drop, map, refl, sym, ◌∙◌, ap, subst, append-nil, append_assoc, length-append, Option, Result, Ok, Err}
 use Rattle.std.proofs.lemmas.Grind.{flat_map-append}
 use Rattle.std.specs.Prelude.{IfOk}
 use Rattle.roc_epoch.specs.declared.file.File.{File}
@@ -13,6 +13,7 @@ use Rattle.roc_grown_submit.specs.GrownCoordRun.{GrownCoordNodeState, GrownSubmi
 use Rattle.roc_grown_submit.specs.GrownCoordRun.{grown_reply_lines, grown_answered_then}
 use Rattle.roc_grown_submit.specs.GrownCoordRun.{with_grown_submissions, grown_submitted_node, grown_coord_took, grown_coord_turn}
 use Rattle.roc_grown_submit.specs.GrownEnd.{naming}
+use Rattle.roc_grown_submit.specs.GrownPieces.{grown_submissions_text, grown_reply_text, AreGrownWritten, none_written, turn_written, grown_half_pieces}
 use Rattle.roc_grown_submit.specs.Inner.GrownTurn.{grown_node_of, bare_node, lines_then, Seen, Does, PutsOut, TakesStep, TakesHalf, SubmitsHalf, TakesEventDue, TakesOneHalf, HalfSubmits}
 use Rattle.roc_grown_submit.specs.Inner.GrownTurn.{HalfTakes, GrownRanSo}
 use Rattle.roc_grown_submit.specs.declared.coord_node.CoordNode.{CoordNode}
@@ -21,6 +22,7 @@ use Rattle.roc_io.proofs.Told.{Adds-nil, Adds-trans}
 use Rattle.roc_io.specs.Call.{LinkView}
 use Rattle.roc_io.specs.Link.{LinkEvent, sending, receiving, came, none_came, vain}
 use Rattle.roc_io.specs.Observed.{Adds, AddsFront}
+use Rattle.roc_io.specs.Sink.{AddsCut, piece_of}
 use Rattle.roc_io.specs.declared.link.Addr.{Addr}
 use Rattle.roc_msg.specs.declared.msg.Msg.{Msg}
 use Rattle.roc_node.proofs.Moving.{Moves-trans, Moves-before, Moves-none}
@@ -36,15 +38,22 @@ use Rattle.roc_wire.specs.declared.header.Header.{Header}
 
 -- ---- all that is told
 
-does_nothing : (a : Seen) → Does [] [] a a
-does_nothing a = record { moves = Moves-none a.link a.link refl refl refl refl; told = Adds-nil a.out }
+does_nothing : (a : Seen) → Does [] [] [] a a
+does_nothing a = record { moves = Moves-none a.link a.link refl refl refl refl; told = Adds-nil a.out; in_pieces = Adds-nil a.pieces }
 
-does_more : (traffic next : List LinkEvent) (text later : List ℕ) (a b c : Seen) → Does traffic text a b → Does next later b c → Does (traffic ++ next) (text ++ later) a c
-does_more traffic next text later a b c p q = record { moves = Moves-trans a.link b.link c.link traffic next p.moves q.moves; told = Adds-trans a.out b.out c.out text later p.told q.told }
+does_more : (traffic next : List LinkEvent) (text later : List ℕ) (pieces others : List (List ℕ)) (a b c : Seen) → Does traffic text pieces a b → Does next later others b c
+    → Does (traffic ++ next) (text ++ later) (pieces ++ others) a c
+does_more traffic next text later pieces others a b c p q = record {
+  moves = Moves-trans a.link b.link c.link traffic next p.moves q.moves;
+  told = Adds-trans a.out b.out c.out text later p.told q.told;
+  in_pieces = Adds-trans a.pieces b.pieces c.pieces pieces others p.in_pieces q.in_pieces;
+}
 
 -- only the link moved behind it
-pub does_still : (traffic next : List LinkEvent) (text : List ℕ) (a b c : Seen) → Does traffic text a b → Does next [] b c → Does (traffic ++ next) text a c
-does_still traffic next text a b c p q = subst (λ t. Does (traffic ++ next) t a c) (append-nil text) (does_more traffic next text [] a b c p q)
+pub does_still : (traffic next : List LinkEvent) (text : List ℕ) (pieces : List (List ℕ)) (a b c : Seen) → Does traffic text pieces a b → Does next [] [] b c → Does (traffic ++ next) text pieces a c
+does_still traffic next text pieces a b c p q =
+    subst (λ t. Does (traffic ++ next) t pieces a c) (append-nil text)
+    (subst (λ w. Does (traffic ++ next) (text ++ []) w a c) (append-nil pieces) (does_more traffic next text [] pieces [] a b c p q))
 
 -- ---- one receive
 
@@ -71,25 +80,32 @@ pub due_silence : (S : GrownNodeSetting) (old new : CoordNode) (output : TurnOut
 due_silence S old new output a b takes moves = record { event = silent; takes = takes; moves = moves }
 
 -- the link moved alone
-moved : (traffic : List LinkEvent) (a b : Seen) → Moves a.link b.link traffic → b.out ≡ a.out → Does traffic [] a b
-moved traffic a b moves out = record { moves = moves; told = subst (λ o. Adds a.out o []) (sym out) (Adds-nil a.out) }
+moved : (traffic : List LinkEvent) (a b : Seen) → Moves a.link b.link traffic → b.out ≡ a.out → b.pieces ≡ a.pieces → Does traffic [] [] a b
+moved traffic a b moves out pieces = record {
+  moves = moves;
+  told = subst (λ o. Adds a.out o []) (sym out) (Adds-nil a.out);
+  in_pieces = subst (λ o. Adds a.pieces o []) (sym pieces) (Adds-nil a.pieces);
+}
 
 -- nothing came of it
-pub half_fails : (e : SubmitEnd) (S : GrownNodeSetting) (old new : CoordNode) (a b : LinkView) (out : Option (List ℕ)) → TakesOneHalf (Err e) S old new a b
-    → HalfTakes (Err e) S old new (record { link = a; out = out }) (record { link = b; out = out })
-half_fails end.NoMemory S old new a b out h = (h.0, h.1, moved (map receiving h.0) (record { link = a; out = out }) (record { link = b; out = out }) h.2 refl)
-half_fails end.LinkFault S old new a b out h = moved (receiving vain ∷ []) (record { link = a; out = out }) (record { link = b; out = out }) h refl
-half_fails end.Done S old new a b out h = absurd h
-half_fails end.Unanswered S old new a b out h = absurd h
-half_fails end.SinkFault S old new a b out h = absurd h
-half_fails end.BookFault S old new a b out h = absurd h
+pub half_fails : (e : SubmitEnd) (S : GrownNodeSetting) (old new : CoordNode) (a b : LinkView) (out : Option (List ℕ)) (pieces : Option (List (List ℕ))) → TakesOneHalf (Err e) S old new a b
+    → HalfTakes (Err e) S old new (record { link = a; out = out; pieces = pieces }) (record { link = b; out = out; pieces = pieces })
+half_fails end.NoMemory S old new a b out pieces h =
+    (h.0, h.1, moved (map receiving h.0) (record { link = a; out = out; pieces = pieces }) (record { link = b; out = out; pieces = pieces }) h.2 refl refl)
+half_fails end.LinkFault S old new a b out pieces h =
+    moved (receiving vain ∷ []) (record { link = a; out = out; pieces = pieces }) (record { link = b; out = out; pieces = pieces }) h refl refl
+half_fails end.Done S old new a b out pieces h = absurd h
+half_fails end.Unanswered S old new a b out pieces h = absurd h
+half_fails end.SinkFault S old new a b out pieces h = absurd h
+half_fails end.BookFault S old new a b out pieces h = absurd h
 
 -- what became of what was due for the submissions before a turn
 pub half_submits : (r : Result (Unit {0}) SubmitEnd) (S : GrownNodeSetting) (requests later : List Request) (old new : CoordNode) (output : TurnOutput) (a b : Seen) → SubmitsHalf S requests later old new output
     → PutsOut r output a b → HalfSubmits r S requests later old new a b
 half_submits (Ok u) S requests later old new output a b h p = (output, h, p)
 half_submits (Err end.SinkFault) S requests later old new output a b h p =
-    record { moves = p.moves; told = subst (AddsFront a.out b.out) (h.shows ∙ ap (λ (s : GrownSubmissions). lines_text (naming S) s.lines) (sym h.is)) p.told }
+    let shows = h.shows ∙ ap (λ (s : GrownSubmissions). lines_text (naming S) s.lines) (sym h.is) in
+    record { moves = p.moves; told = subst (AddsFront a.out b.out) shows p.told; in_pieces = subst (AddsCut a.pieces b.pieces []) shows p.in_pieces }
 half_submits (Err end.Done) S requests later old new output a b h p = absurd p
 half_submits (Err end.Unanswered) S requests later old new output a b h p = absurd p
 half_submits (Err end.LinkFault) S requests later old new output a b h p = absurd p
@@ -100,10 +116,10 @@ half_submits (Err end.NoMemory) S requests later old new output a b h p = absurd
 pub half_takes : (r : Result (Unit {0}) SubmitEnd) (S : GrownNodeSetting) (old new : CoordNode) (output : TurnOutput) (m : LinkView) (a b : Seen) → TakesEventDue S old new output a.link m
     → PutsOut r output (record a { link = m }) b → HalfTakes r S old new a b
 half_takes (Ok u) S old new output m a b h p =
-    (h.event, output, h.takes, record { moves = Moves-trans a.link m b.link (receive_of h.event ∷ []) (map sending output.sends.items) h.moves p.moves; told = p.told })
+    (h.event, output, h.takes, record { moves = Moves-trans a.link m b.link (receive_of h.event ∷ []) (map sending output.sends.items) h.moves p.moves; told = p.told; in_pieces = p.in_pieces })
 half_takes (Err end.SinkFault) S old new output m a b h p =
     let takes = h.takes in
-    (h.event, record { moves = Moves-before a.link m b.link (receive_of h.event ∷ []) h.moves p.moves; told = subst (AddsFront a.out b.out) takes.shows p.told })
+    (h.event, record { moves = Moves-before a.link m b.link (receive_of h.event ∷ []) h.moves p.moves; told = subst (AddsFront a.out b.out) takes.shows p.told; in_pieces = subst (AddsCut a.pieces b.pieces []) takes.shows p.in_pieces })
 half_takes (Err end.Done) S old new output m a b h p = absurd p
 half_takes (Err end.Unanswered) S old new output m a b h p = absurd p
 half_takes (Err end.LinkFault) S old new output m a b h p = absurd p
@@ -124,6 +140,8 @@ grown_ran_none S number requests later coord_node a is = record {
   lines = [];
   counted = refl;
   run = subst (λ d. IsGrownCoordRun S number requests later [] (grown_node_of d requests later [] [] [])) (sym is) begun;
+  pieces = [];
+  written = subst (λ d. AreGrownWritten S number requests later [] (grown_node_of d requests later [] [] []) []) (sym is) none_written;
   does = does_nothing a;
 }
 
@@ -159,11 +177,11 @@ lines_behind : (program : Workload) (some more : List Line) → lines_text progr
 lines_behind program some more = sym (flat_map-append (line_text program) some more)
 
 -- lines behind others
-told_more : (program : Workload) (traffic next : List LinkEvent) (lines more : List Line) (text : List ℕ) (a b c : Seen) → text ≡ lines_text program more
-    → Does traffic (lines_text program lines) a b → Does next text b c → Does (traffic ++ next) (lines_text program (lines ++ more)) a c
-told_more program traffic next lines more text a b c shows p q =
-    subst (λ t. Does (traffic ++ next) t a c) (ap (λ l. lines_text program lines ++ l) shows ∙ lines_behind program lines more)
-    (does_more traffic next (lines_text program lines) text a b c p q)
+told_more : (program : Workload) (traffic next : List LinkEvent) (lines more : List Line) (pieces others : List (List ℕ)) (text : List ℕ) (a b c : Seen) → text ≡ lines_text program more
+    → Does traffic (lines_text program lines) pieces a b → Does next text others b c → Does (traffic ++ next) (lines_text program (lines ++ more)) (pieces ++ others) a c
+told_more program traffic next lines more pieces others text a b c shows p q =
+    subst (λ t. Does (traffic ++ next) t (pieces ++ others) a c) (ap (λ l. lines_text program lines ++ l) shows ∙ lines_behind program lines more)
+    (does_more traffic next (lines_text program lines) text pieces others a b c p q)
 
 -- behind the submissions of a turn: what the node is, and what was sent and written
 pub record Halved (S : GrownNodeSetting) (number : ℕ) (requests later : List Request) (count : ℕ) (coord_node : CoordNode) (a b : Seen) : Type 0 where
@@ -175,7 +193,9 @@ pub record Halved (S : GrownNodeSetting) (number : ℕ) (requests later : List R
   pub counted : length events ≡ count
   pub run : IsGrownCoordRun S number requests later events node
   pub is : grown_submitted_node S node ≡ grown_node_of coord_node requests later messages traffic lines
-  pub does : Does traffic (lines_text (naming S) lines) a b
+  pub pieces : List (List ℕ)
+  pub written : AreGrownWritten S number requests later events node pieces
+  pub does : Does traffic (lines_text (naming S) lines) (grown_half_pieces S node true pieces) a b
 
 pub halved : (S : GrownNodeSetting) (number : ℕ) (requests later : List Request) (count : ℕ) (old new : CoordNode) (a b c : Seen)
     → GrownRanSo S number requests later count old a b → HalfSubmits (Ok tt) S requests later old new b c → Halved S number requests later count new a c
@@ -189,7 +209,11 @@ halved S number requests later count old new a b c r h =
       counted = r.counted;
       run = r.run;
       is = submitted_node S requests later old new output r.messages r.traffic r.lines m;
-      does = told_more (naming S) r.traffic (map sending output.sends.items) r.lines m.lines output.text.items a b c m.shows r.does h.2;
+      pieces = r.pieces;
+      written = r.written;
+      does = subst (λ t. Does (r.traffic ++ map sending output.sends.items) (lines_text (naming S) (r.lines ++ m.lines)) (r.pieces ++ piece_of t) a c)
+          (m.shows ∙ ap (λ (s : GrownSubmissions). lines_text (naming S) s.lines) (sym m.is))
+          (told_more (naming S) r.traffic (map sending output.sends.items) r.lines m.lines r.pieces (piece_of output.text.items) output.text.items a b c m.shows r.does h.2);
     }
 
 -- it is not over, as the bare node tells
@@ -211,15 +235,23 @@ pub grown_ran_more : (S : GrownNodeSetting) (number : ℕ) (requests later : Lis
     → HalfTakes (Ok tt) S mid new c d → GrownRanSo S number requests later (count + 1) new a d
 grown_ran_more S number requests later count old mid new a b c d r s not t =
     let h = halved S number requests later count old mid a b c r s in
-    let event = t.0 in let output = t.1 in let takes = t.2 in let step = grown_step_of_event S mid.coord event in let sends = map sending output.sends.items in record {
+    let event = t.0 in let output = t.1 in let takes = t.2 in let step = grown_step_of_event S mid.coord event in let sends = map sending output.sends.items in
+    let before = piece_of (grown_submissions_text S h.node) in
+    let not_over = goes S number requests later count mid a c h false not in
+    let reply : output.text.items ≡ grown_reply_text S h.node event =
+    takes.shows ∙ ap (λ (n : GrownCoordNodeState). lines_text (naming S) (grown_reply_lines (grown_step_of_event S n.state event).answer)) (sym h.is) in record {
       events = h.events ++ event ∷ [];
       messages = h.messages ++ map (filed new.coord.switched) step.sends;
       traffic = (h.traffic ++ receive_of event ∷ []) ++ sends;
       lines = h.lines ++ lines_then S mid.coord event;
       counted = let e = h.counted in length-append h.events (event ∷ []) ∙ ap (λ n. n + 1) e;
-      run = subst (IsGrownCoordRun S number requests later (h.events ++ event ∷ [])) (turned S number requests later count mid new a c h event output takes)
-          (goes_on event h.run (goes S number requests later count mid a c h false not));
-      does = subst (λ l. Does l (lines_text (naming S) (h.lines ++ lines_then S mid.coord event)) a d)
+      run = subst (IsGrownCoordRun S number requests later (h.events ++ event ∷ [])) (turned S number requests later count mid new a c h event output takes) (goes_on event h.run not_over);
+      pieces = h.pieces ++ (before ++ piece_of (grown_reply_text S h.node event));
+      written = subst (λ (n : GrownCoordNodeState). AreGrownWritten S number requests later (h.events ++ event ∷ []) n (h.pieces ++ (before ++ piece_of (grown_reply_text S h.node event))))
+          (turned S number requests later count mid new a c h event output takes) (turn_written event h.written not_over);
+      does = subst (λ l. Does l (lines_text (naming S) (h.lines ++ lines_then S mid.coord event)) (h.pieces ++ (before ++ piece_of (grown_reply_text S h.node event))) a d)
           (sym (append_assoc h.traffic (receive_of event ∷ []) sends))
-          (told_more (naming S) h.traffic (receive_of event ∷ sends) h.lines (lines_then S mid.coord event) output.text.items a c d takes.shows h.does t.3);
+          (subst (λ w. Does (h.traffic ++ receive_of event ∷ sends) (lines_text (naming S) (h.lines ++ lines_then S mid.coord event)) w a d)
+          (append_assoc h.pieces before (piece_of output.text.items) ∙ ap (λ t. h.pieces ++ (before ++ piece_of t)) reply)
+          (told_more (naming S) h.traffic (receive_of event ∷ sends) h.lines (lines_then S mid.coord event) (h.pieces ++ before) (piece_of output.text.items) output.text.items a c d takes.shows h.does t.3));
     }

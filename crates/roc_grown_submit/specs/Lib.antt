@@ -1,3 +1,4 @@
 pub mod GrownCoordRun
 pub mod GrownEnd
+pub mod GrownPieces
 pub mod Inner

@@ -2,7 +2,8 @@
 //! a coordinator's own core, over any link and any sink (`docs/PROTOCOL.md`, "Growth"). It stands on no server, and keeps no log.
 //!
 //! [`submit_growing`] binds any free port and runs it, to the end that [`SubmitEnd`] tells; [`submit_growing_turns`] is what it does over a link that is bound.
-//! Their contracts cite `specs/GrownEnd.antt`, which says for each end what the link took and gave, and what the sink took. It rests on the node's run
+//! Their contracts cite `specs/GrownEnd.antt`, which says for each end what the link took and gave, and what the sink took; and
+//! `specs/GrownPieces.antt`, which says what goes out in one write. Both rest on the node's run
 //! (`specs/GrownCoordRun.antt`): a fold of one event after another, a datagram that came or silence, whose steps are those of the core of `roc_grown`. Before
 //! each event stands, in this order, the drain, once all of the first requests are submitted and answered; the submissions that are left of them; and those of
 //! the later ones, once the coordinator has switched and none of the first is left.

@@ -6,7 +6,8 @@ ghost use Rattle.roc_grown.specs.Coord.{first_grown_coord};
 ghost use Rattle.roc_grown_node.specs.Setting.{grown_node_setting};
 ghost use Rattle.roc_grown_submit.specs.GrownCoordRun.{are_all_answered};
 ghost use Rattle.roc_grown_submit.specs.GrownEnd.{grown_closing_text, SubmitsGrowing, BindsAndSubmitsGrowing};
-ghost use Rattle.roc_grown_submit.specs.Inner.GrownTurn.{bare_node, ClosesGrown};
+ghost use Rattle.roc_grown_submit.specs.GrownPieces.{WritesGrownInPieces};
+ghost use Rattle.roc_grown_submit.specs.Inner.GrownTurn.{bare_node, ClosesGrown, ClosesInPiece};
 ghost use Rattle.roc_io.specs.Call.{link_call, link_view, sink_call};
 ghost use Rattle.roc_io.specs.Cause.{HasCause};
 ghost use Rattle.roc_node.specs.NodeLine.{node_line_text, node_lines_text};
@@ -57,6 +58,9 @@ pub fn submit_growing_turns<L: Link, S: Sink>(
     // There is no log that could fail.
     ensures unlogged { submit_book_failed result ≡ false }
     ensures bound { L.bound link.new ≡ L.bound link.old }
+    // All lines of the submissions before a turn go out in one write, the line of a reply in one, and all last lines in one; where no line comes, there is
+    // no write.
+    ensures pieces { WritesGrownInPieces (grown_node_setting plan.now tag next.now (node.Coord coord) cluster.now) coord requests.now later.now (S.pieces out.old) (S.pieces out.new) result }
     // What the node's run gives over the arrivals is what was sent and written.
     ensures submits { SubmitsGrowing (grown_node_setting plan.now tag next.now (node.Coord coord) cluster.now) coord requests.now later.now turns
         (record { old = link_view L.Link link.old; new = link_view L.Link link.new; out = sink_call S.Sink out.old out.new })
@@ -171,6 +175,7 @@ fn close<S: Sink>(
     ensures link { submit_link_failed result ≡ false }
     ensures unlogged { submit_book_failed result ≡ false }
     ensures closes { ClosesGrown result (bare_node coord_node.now requests.now later.now) (S.taken out.old) (S.taken out.new) }
+    ensures pieces { ClosesInPiece result (bare_node coord_node.now requests.now later.now) (S.pieces out.old) (S.pieces out.new) }
 {
     let mut text = Vec::new(alloc);
     if push_closing(alloc, &mut text, coord_node, requests, later).is_err() {
@@ -210,6 +215,8 @@ pub fn submit_growing<L: Link, S: Sink>(
     ensures sink_cause { HasCause (submit_sink_failed result) (S.faults out.old) (S.faults out.new) }
     // There is no log that could fail.
     ensures unlogged { submit_book_failed result ≡ false }
+    // What goes out in one write.
+    ensures pieces { WritesGrownInPieces (grown_node_setting plan.now tag next.now (node.Coord coord) cluster.now) coord requests.now later.now (S.pieces out.old) (S.pieces out.new) result }
     ensures submits { BindsAndSubmitsGrowing (grown_node_setting plan.now tag next.now (node.Coord coord) cluster.now) coord requests.now later.now turns
         (record { link = link_call L.Link link.old link.new; out = sink_call S.Sink out.old out.new })
         result }

@@ -5,7 +5,7 @@ ghost use Rattle.roc_grown_node.specs.Setting.{grown_setting_of};
 ghost use Rattle.roc_grown_submit.specs.Inner.GrownTurn.{HalfSubmits, HalfTakes, PutsOut, TakesOneHalf, due_failed, due_book_failed, half_book_failed, half_link_failed, half_sink_failed, seen};
 ghost use Rattle.roc_io.specs.Call.{link_view};
 ghost use Rattle.roc_io.specs.Cause.{HasCause};
-ghost use Rattle.roc_io.specs.Sink.{write_failed, Takes};
+ghost use Rattle.roc_io.specs.Sink.{write_failed, Takes, WritesPiece};
 ghost use Rattle.roc_wire.specs.Fits.{FitsHeader};
 
 use crate::coord_node::{CoordNode, TurnOutput, make_submissions};
@@ -16,10 +16,11 @@ use roc_node_submit::SubmitEnd;
 use roc_sched::Request;
 use std::alloc::Global;
 
-// Writes a text, unless it is empty.
+// Writes a text in one piece, unless it is empty.
 fn write_text<S: Sink>(out: &mut S, text: &[u8]) -> Written
     ensures cause { HasCause (write_failed result) (S.faults out.old) (S.faults out.new) }
     ensures taken { Takes result (S.taken out.old) (S.taken out.new) text.now }
+    ensures pieces { WritesPiece result (S.pieces out.old) (S.pieces out.new) text.now }
 {
     if text.is_empty() {
         return Written::Ok;

@@ -1,7 +1,7 @@
 //! The outside: input files, sinks for output, a datagram link and child processes, each as a trait.
 //!
 //! A trait counts its own failures, and a contract sees the counts and, as far as the object tells it, the content: the
-//! bytes that a name holds, the names whose reads failed, the bytes that a sink took, the datagrams that are to arrive
+//! bytes that a name holds, the names whose reads failed, the bytes that a sink took, by the writes too, the datagrams that are to arrive
 //! and those that were sent, what came of all that a link was asked for in order (sends, also those that failed, and receives in one
 //! list), the children started and awaited, and what a link had sent when a wait began. `HasCause` (`specs/Cause.antt`) ties each answer that
 //! reports a failure to its count: a call that failed was counted (or the count stands at its type's end), and any

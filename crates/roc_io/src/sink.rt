@@ -2,7 +2,7 @@
 ghost use Rattle.std.specs.Prelude.{◌≡◌, ℕ, Option, List};
 ghost use Rattle.std.specs.List.{flat_map};
 ghost use Rattle.roc_io.specs.Cause.{HasCause};
-ghost use Rattle.roc_io.specs.Sink.{write_failed, Takes};
+ghost use Rattle.roc_io.specs.Sink.{write_failed, Takes, TakesPiece};
 
 /// What a sink answers.
 #[derive(Clone, Copy, Debug, PartialEq, Eq)]
@@ -21,10 +21,14 @@ pub trait Sink {
     /// The bytes taken so far, where the sink tells them.
     ghost taken: { Self → Option (List ℕ) };
 
+    /// The same by the writes: what each took so far, in order, where the sink tells it. Of a write that failed that is the front that was taken.
+    ghost pieces: { Self → Option (List (List ℕ)) };
+
     /// Takes a piece.
     fn write(&mut self, piece: &[u8]) -> Written
         ensures cause { HasCause (write_failed result) (faults self.old) (faults self.new) }
-        ensures taken { Takes result (taken self.old) (taken self.new) piece.now };
+        ensures taken { Takes result (taken self.old) (taken self.new) piece.now }
+        ensures pieces { TakesPiece result (taken self.old) (taken self.new) (pieces self.old) (pieces self.new) piece.now };
 
     /// The count of failures.
     fn faults(&self) -> u64

@@ -2,7 +2,12 @@
 use Rattle.std.specs.Prelude.{ℕ, List, Option}
 use Rattle.roc_io_memory.specs.Calls.{Calls}
 
--- a sink in memory: the bytes taken, where it tells them, and its calls
+-- what a sink in memory took, where it tells that: the bytes, and what each write took
+pub record SinkTaken : Type 0 where
+  pub bytes : Option (List ℕ)
+  pub pieces : Option (List (List ℕ))
+
+-- one that can fail: what it took, and its calls
 pub record SinkState : Type 0 where
-  pub taken : Option (List ℕ)
+  pub taken : SinkTaken
   pub calls : Calls

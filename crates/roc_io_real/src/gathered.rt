@@ -112,6 +112,8 @@ impl<W: Write> Sink for Gathered<W> {
 
     ghost taken = { λ s. None };
 
+    ghost pieces = { λ s. None };
+
     fn write(&mut self, piece: &[u8]) -> Written
         ensures cause { HasCause (write_failed result) self.old.faults self.new.faults }
         ensures failed { 0 < failures_of self.old → write_failed result ≡ true }

@@ -24,6 +24,8 @@ impl<W: Write> Sink for Stream<W> {
 
     ghost taken = { λ s. None };
 
+    ghost pieces = { λ s. None };
+
     fn write(&mut self, piece: &[u8]) -> Written {
         match write_now(&mut self.writer, piece) {
             Ok(()) => Written::Ok,

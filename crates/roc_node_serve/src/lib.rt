@@ -4,7 +4,8 @@
 //! [`serve`] opens the journal that is named, if one is, then the book under the name of the log, if one is, binds the shard's
 //! address and runs a server, to the end that [`ServeEnd`] tells. Its contract cites `specs/ServeEnd.antt`, which says for each
 //! end what the link took and gave and what the sink took, `specs/Keeping.antt`, which says what the journal holds then and what
-//! a stop at any moment of the call leaves of it, and `specs/Logging.antt`, which says what the book took. All three rest on the
+//! a stop at any moment of the call leaves of it, and `specs/Logging.antt`, which says what the book took; and `specs/Pieces.antt`,
+//! which says in how many writes the lines go out. The first three rest on the
 //! node's run: a fold of one event after another, a datagram that came or silence (`specs/ServerRun.antt`), whose steps are those
 //! of the core. It begins with the first state of the core, or with what the journal gave and one tick.
 //!

@@ -10,6 +10,7 @@ ghost use Rattle.roc_node.specs.NodeEvent.{node_setting};
 ghost use Rattle.roc_node.specs.Setting.{setting_of};
 ghost use Rattle.roc_node_serve.specs.Keeping.{ServesKept, ServesUnkept, ServesWith};
 ghost use Rattle.roc_node_serve.specs.Logging.{KeepsLog};
+ghost use Rattle.roc_node_serve.specs.Pieces.{WritesInPieces};
 ghost use Rattle.roc_node_serve.specs.ServerRun.{opened_node};
 ghost use Rattle.roc_node_serve.specs.ServeEnd.{is_end_of_journal, serve_book_failed, serve_disk_failed, serve_link_failed, serve_refused, serve_sink_failed};
 ghost use Rattle.roc_node_serve.specs.Inner.JournalTurn.{CallsDisk, IsOpen};
@@ -64,6 +65,8 @@ pub fn serve<L: Link, S: Sink, D: Disk, B: Book>(
     ensures disk_cause { HasCause (serve_disk_failed result) (D.faults disk.old) (D.faults disk.new) }
     ensures disk_told { D.tells disk.new ≡ true → D.tells disk.old ≡ true }
     ensures disk_stays { journal.entry ≡ None → disk.new ≡ disk.old }
+    // The first line goes out in one write, and all last lines in one.
+    ensures pieces { WritesInPieces shard counts (S.pieces out.old) (S.pieces out.new) result }
     // What the node's run gives over the arrivals is what was sent and written, and what the journal and the log keep.
     ensures serves { (own : Addr) → slice_get cluster.now shard.0 ≡ Some own
         → ServesWith D.Disk disk.old disk.new (option_map (λ name. name.now) journal.entry) (option_map (λ name. name.now) log.entry)
@@ -107,6 +110,7 @@ fn serve_unkept<L: Link, S: Sink, D: Disk, B: Book>(
     ensures link_cause { HasCause (serve_link_failed result) (L.faults link.old) (L.faults link.new) }
     ensures opened { serve_refused result ≡ false }
     ensures sink_cause { HasCause (serve_sink_failed result) (S.faults out.old) (S.faults out.new) }
+    ensures pieces { WritesInPieces shard counts (S.pieces out.old) (S.pieces out.new) result }
     ensures book_cause { HasCause (serve_book_failed result) (B.faults book.old) (B.faults book.new) }
     ensures disk_cause { HasCause (serve_disk_failed result) (D.faults disk.old) (D.faults disk.new) }
     ensures disk_stays { disk.new ≡ disk.old }
@@ -158,6 +162,7 @@ fn serve_kept<L: Link, S: Sink, D: Disk, B: Book>(
     ensures link_cause { HasCause (serve_link_failed result) (L.faults link.old) (L.faults link.new) }
     ensures link_stays { serve_refused result ≡ true → link.new ≡ link.old }
     ensures sink_cause { HasCause (serve_sink_failed result) (S.faults out.old) (S.faults out.new) }
+    ensures pieces { WritesInPieces shard counts (S.pieces out.old) (S.pieces out.new) result }
     ensures book_cause { HasCause (serve_book_failed result) (B.faults book.old) (B.faults book.new) }
     ensures disk_cause { HasCause (serve_disk_failed result) (D.faults disk.old) (D.faults disk.new) }
     ensures disk_told { D.tells disk.new ≡ true → D.tells disk.old ≡ true }
@@ -220,6 +225,7 @@ fn serve_opened<L: Link, S: Sink, D: Disk, B: Book>(
     ensures link_cause { HasCause (serve_link_failed result) (L.faults link.old) (L.faults link.new) }
     ensures opened { serve_refused result ≡ false }
     ensures sink_cause { HasCause (serve_sink_failed result) (S.faults out.old) (S.faults out.new) }
+    ensures pieces { WritesInPieces shard counts (S.pieces out.old) (S.pieces out.new) result }
     ensures book_cause { HasCause (serve_book_failed result) (B.faults book.old) (B.faults book.new) }
     ensures calls { CallsDisk D.Disk disk.old disk.new server_node.old.server (serve_disk_failed result) (is_end_of_journal result) }
     ensures serves { (own : Addr) → slice_get setting.entry.cluster.now shard.0 ≡ Some own

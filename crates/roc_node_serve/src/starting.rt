@@ -11,6 +11,7 @@ ghost use Rattle.roc_wire.specs.Fits.{FitsHeader};
 ghost use Rattle.roc_node.specs.NodeLine.{node_lines_text, end_lines};
 ghost use Rattle.roc_node.specs.Setting.{setting_of};
 ghost use Rattle.roc_node_serve.specs.Logging.{KeepsLog};
+ghost use Rattle.roc_node_serve.specs.Pieces.{ClosesInPiece, WritesInPieces};
 ghost use Rattle.roc_node_serve.specs.ServeEnd.{first_text, is_end_of_journal, serve_book_failed, serve_disk_failed, serve_link_failed, serve_refused, serve_sink_failed};
 ghost use Rattle.roc_node_serve.specs.Inner.JournalTurn.{CallsDisk, IsOpen};
 ghost use Rattle.roc_node_serve.specs.Inner.LogTurn.{TookSo, text_for};
@@ -51,6 +52,7 @@ pub fn serve_from<L: Link, S: Sink, D: Disk, B: Book>(
     ensures link_cause { HasCause (serve_link_failed result) (L.faults link.old) (L.faults link.new) }
     ensures opened { serve_refused result ≡ false }
     ensures sink_cause { HasCause (serve_sink_failed result) (S.faults out.old) (S.faults out.new) }
+    ensures pieces { WritesInPieces shard counts (S.pieces out.old) (S.pieces out.new) result }
     ensures book_cause { HasCause (serve_book_failed result) (B.faults book.old) (B.faults book.new) }
     ensures calls { CallsDisk D.Disk disk.old disk.new server_node.old.server (serve_disk_failed result) (is_end_of_journal result) }
     ensures serves { (own : Addr) → slice_get setting.entry.cluster.now shard.0 ≡ Some own → (messages : List Outgoing) (logged : List LogLine)
@@ -108,6 +110,7 @@ fn serve_begun<L: Link, S: Sink, D: Disk, B: Book>(
     ensures link_cause { HasCause (serve_link_failed result) (L.faults link.old) (L.faults link.new) }
     ensures opened { serve_refused result ≡ false }
     ensures sink_cause { HasCause (serve_sink_failed result) (S.faults out.old) (S.faults out.new) }
+    ensures pieces { WritesInPieces shard counts (S.pieces out.old) (S.pieces out.new) result }
     ensures book_cause { HasCause (serve_book_failed result) (B.faults book.old) (B.faults book.new) }
     ensures calls { CallsDisk D.Disk disk.old disk.new server_node.old.server (serve_disk_failed result) (is_end_of_journal result) }
     ensures serves { (own : Addr) → slice_get setting.entry.cluster.now shard.0 ≡ Some own → (messages : List Outgoing) (logged : List LogLine)
@@ -158,6 +161,7 @@ fn close<S: Sink>(
     ensures journal { is_end_of_journal result ≡ false }
     ensures book { serve_book_failed result ≡ false }
     ensures closes { ClosesServe result (node_lines_text (end_lines shard stopped counts server_node.now.counts)) (S.taken out.old) (S.taken out.new) }
+    ensures pieces { ClosesInPiece result (node_lines_text (end_lines shard stopped counts server_node.now.counts)) (S.pieces out.old) (S.pieces out.new) }
 {
     let mut text = Vec::new(alloc);
     if append_end(

@@ -58,17 +58,22 @@ keeps_front false log first begun a b c text cut h g front = absurd front
 
 -- ---- all that is told
 
-pub does_nothing : (logs : Bool) (a : Seen) → Does logs [] [] [] a a
-does_nothing logs a = record { moves = Moves-none a.link a.link refl refl refl refl; told = Adds-nil a.out; kept = gains_nothing logs a.book }
+pub does_nothing : (logs : Bool) (a : Seen) → Does logs [] [] [] [] a a
+does_nothing logs a = record { moves = Moves-none a.link a.link refl refl refl refl; told = Adds-nil a.out; in_pieces = Adds-nil a.pieces; kept = gains_nothing logs a.book }
 
-pub does_more : (logs : Bool) (traffic next : List LinkEvent) (text later log more : List ℕ) (a b c : Seen) → Does logs traffic text log a b → Does logs next later more b c → Does logs (traffic ++ next) (text ++ later) (log ++ more) a c
-does_more logs traffic next text later log more a b c p q = record {
+pub does_more : (logs : Bool) (traffic next : List LinkEvent) (text later : List ℕ) (pieces others : List (List ℕ)) (log more : List ℕ) (a b c : Seen)
+    → Does logs traffic text pieces log a b → Does logs next later others more b c → Does logs (traffic ++ next) (text ++ later) (pieces ++ others) (log ++ more) a c
+does_more logs traffic next text later pieces others log more a b c p q = record {
   moves = Moves-trans a.link b.link c.link traffic next p.moves q.moves;
   told = Adds-trans a.out b.out c.out text later p.told q.told;
+  in_pieces = Adds-trans a.pieces b.pieces c.pieces pieces others p.in_pieces q.in_pieces;
   kept = gains_more logs a.book b.book c.book log more p.kept q.kept;
 }
 
 -- only the link moved behind it
-pub does_still : (logs : Bool) (traffic next : List LinkEvent) (text log : List ℕ) (a b c : Seen) → Does logs traffic text log a b → Does logs next [] [] b c → Does logs (traffic ++ next) text log a c
-does_still logs traffic next text log a b c p q =
-    subst (λ t. Does logs (traffic ++ next) t log a c) (append-nil text) (subst (λ l. Does logs (traffic ++ next) (text ++ []) l a c) (append-nil log) (does_more logs traffic next text [] log [] a b c p q))
+pub does_still : (logs : Bool) (traffic next : List LinkEvent) (text : List ℕ) (pieces : List (List ℕ)) (log : List ℕ) (a b c : Seen)
+    → Does logs traffic text pieces log a b → Does logs next [] [] [] b c → Does logs (traffic ++ next) text pieces log a c
+does_still logs traffic next text pieces log a b c p q =
+    subst (λ t. Does logs (traffic ++ next) t pieces log a c) (append-nil text)
+    (subst (λ w. Does logs (traffic ++ next) (text ++ []) w log a c) (append-nil pieces)
+    (subst (λ l. Does logs (traffic ++ next) (text ++ []) (pieces ++ []) l a c) (append-nil log) (does_more logs traffic next text [] pieces [] log [] a b c p q)))

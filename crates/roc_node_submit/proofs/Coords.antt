@@ -1,9 +1,10 @@
 -- One turn of a coordinator's node after another.
-use Rattle.std.proofs.Common.{◌≡◌, ℕ, ◌+◌, Bool, false, List, [], ◌∷◌, ◌++◌, length, drop, map, refl, sym, ◌∙◌, ap, subst, append_assoc, length-append, Option, Result, Ok, Err}
+use Rattle.std.proofs.Common.{◌≡◌, ℕ, ◌+◌, Bool, true, false, List, [], ◌∷◌, ◌++◌, length, drop, map, refl, sym, ◌∙◌, ap, subst, append_assoc, length-append, Option, Result, Ok, Err}
 use Rattle.roc_io.specs.declared.link.Addr.{Addr}
 use Rattle.roc_io.specs.Link.{LinkEvent, sending, receiving, came, none_came, vain}
 use Rattle.roc_io.specs.declared.sink.Written.TheVariants.{Failed}
 use Rattle.roc_io.specs.Observed.{Adds, AddsFront}
+use Rattle.roc_io.specs.Sink.{AddsCut, piece_of}
 use Rattle.roc_io.proofs.Told.{Adds-nil}
 use Rattle.roc_book.specs.Call.{BookView}
 use Rattle.roc_log.specs.declared.line.LogLine.{LogLine}
@@ -31,6 +32,7 @@ use Rattle.roc_node_submit.specs.declared.ends.SubmitEnd.{SubmitEnd}
 use Rattle.roc_node_submit.specs.declared.ends.SubmitEnd.TheVariants as end
 use Rattle.roc_node.specs.NodeEvent.{NodeEvent, took, silent, receive_of, NodeSetting}
 use Rattle.roc_node_submit.specs.CoordRun.{CoordNodeState, Submissions, step_of_judged, step_of_event, reply_lines, datagram_logged, answered_then, with_submissions, IsCoordRun, begun, goes_on, is_answered, coord_submitted, coord_took, coord_turn}
+use Rattle.roc_node_submit.specs.Pieces.{submissions_text, reply_text, AreWritten, none_written, turn_written, half_pieces}
 use Rattle.roc_node_submit.specs.Inner.CoordTurn.{coord_node_state_of, if_logged, logged_of, submissions_from, Gains, GainsBy, Seen, Does, PutsOut, TakesStep, TakesHalf, SubmitsHalf, TakesEventDue, TakesOneHalf, HalfSubmits, HalfTakes, CoordRanSo}
 use Rattle.roc_node_submit.proofs.Booked.{gains_nothing, does_nothing, does_more}
 
@@ -56,22 +58,26 @@ pub due_silence : (S : NodeSetting) (logs : Bool) (old new : CoordNode) (output 
 due_silence S logs old new output a b takes moves = record { event = silent; takes = takes; moves = moves }
 
 -- the link moved alone
-moved : (logs : Bool) (traffic : List LinkEvent) (a b : Seen) → Moves a.link b.link traffic → b.out ≡ a.out → b.book ≡ a.book → Does logs traffic [] [] a b
-moved logs traffic a b moves out book = record {
+moved : (logs : Bool) (traffic : List LinkEvent) (a b : Seen) → Moves a.link b.link traffic → b.out ≡ a.out → b.pieces ≡ a.pieces → b.book ≡ a.book → Does logs traffic [] [] [] a b
+moved logs traffic a b moves out pieces book = record {
   moves = moves;
   told = subst (λ o. Adds a.out o []) (sym out) (Adds-nil a.out);
+  in_pieces = subst (λ o. Adds a.pieces o []) (sym pieces) (Adds-nil a.pieces);
   kept = subst (λ k. Gains logs a.book k []) (sym book) (gains_nothing logs a.book);
 }
 
 -- nothing came of it
-pub half_fails : (e : SubmitEnd) (S : NodeSetting) (logs : Bool) (old new : CoordNode) (a b : LinkView) (out : Option (List ℕ)) (book : BookView) → TakesOneHalf (Err e) S logs old new a b
-    → HalfTakes (Err e) S logs old new (record { link = a; out = out; book = book }) (record { link = b; out = out; book = book })
-half_fails end.NoMemory S logs old new a b out book h = (h.0, h.1, moved logs (map receiving h.0) (record { link = a; out = out; book = book }) (record { link = b; out = out; book = book }) h.2 refl refl)
-half_fails end.LinkFault S logs old new a b out book h = moved logs (receiving vain ∷ []) (record { link = a; out = out; book = book }) (record { link = b; out = out; book = book }) h refl refl
-half_fails end.Done S logs old new a b out book h = absurd h
-half_fails end.Unanswered S logs old new a b out book h = absurd h
-half_fails end.SinkFault S logs old new a b out book h = absurd h
-half_fails end.BookFault S logs old new a b out book h = absurd h
+pub half_fails : (e : SubmitEnd) (S : NodeSetting) (logs : Bool) (old new : CoordNode) (a b : LinkView) (out : Option (List ℕ)) (pieces : Option (List (List ℕ))) (book : BookView)
+    → TakesOneHalf (Err e) S logs old new a b
+    → HalfTakes (Err e) S logs old new (record { link = a; out = out; pieces = pieces; book = book }) (record { link = b; out = out; pieces = pieces; book = book })
+half_fails end.NoMemory S logs old new a b out pieces book h =
+    (h.0, h.1, moved logs (map receiving h.0) (record { link = a; out = out; pieces = pieces; book = book }) (record { link = b; out = out; pieces = pieces; book = book }) h.2 refl refl refl)
+half_fails end.LinkFault S logs old new a b out pieces book h =
+    moved logs (receiving vain ∷ []) (record { link = a; out = out; pieces = pieces; book = book }) (record { link = b; out = out; pieces = pieces; book = book }) h refl refl refl
+half_fails end.Done S logs old new a b out pieces book h = absurd h
+half_fails end.Unanswered S logs old new a b out pieces book h = absurd h
+half_fails end.SinkFault S logs old new a b out pieces book h = absurd h
+half_fails end.BookFault S logs old new a b out pieces book h = absurd h
 
 -- what became of what was due for the submissions before a turn
 pub half_submits : (r : Result (Unit {0}) SubmitEnd) (S : NodeSetting) (logs : Bool) (requests : List Request) (old new : CoordNode) (output : TurnOutput) (a b : Seen) → SubmitsHalf S logs requests old new output
@@ -86,8 +92,13 @@ half_submits r S logs requests old new output a b h puts = go r (puts (lines_tex
 
     go : (r : Result (Unit {0}) SubmitEnd) → PutsOut r logs output (lines_text S.plan.program h.logged) a b → HalfSubmits r S logs requests old new a b
     go (Ok u) p = (output, h, p)
-    go (Err end.SinkFault) p = record { moves = p.moves; told = subst (AddsFront a.out b.out) (h.shows ∙ lines) p.told; kept = subst (Gains logs a.book b.book) logged p.kept }
-    go (Err end.BookFault) p = record { moves = p.moves; told = p.told; kept = subst (GainsBy Failed logs a.book b.book) logged p.kept }
+    go (Err end.SinkFault) p = record {
+      moves = p.moves;
+      told = subst (AddsFront a.out b.out) (h.shows ∙ lines) p.told;
+      in_pieces = subst (AddsCut a.pieces b.pieces []) (h.shows ∙ lines) p.in_pieces;
+      kept = subst (Gains logs a.book b.book) logged p.kept;
+    }
+    go (Err end.BookFault) p = record { moves = p.moves; told = p.told; in_pieces = p.in_pieces; kept = subst (GainsBy Failed logs a.book b.book) logged p.kept }
     go (Err end.Done) p = absurd p
     go (Err end.Unanswered) p = absurd p
     go (Err end.LinkFault) p = absurd p
@@ -102,9 +113,23 @@ half_takes r S logs old new output m a b h puts = go r (puts (lines_text S.plan.
     takes = h.takes
 
     go : (r : Result (Unit {0}) SubmitEnd) → PutsOut r logs output (lines_text S.plan.program (logged_of S old.coord h.event)) (record a { link = m }) b → HalfTakes r S logs old new a b
-    go (Ok u) p = (h.event, output, takes, record { moves = Moves-trans a.link m b.link (receive_of h.event ∷ []) (map sending output.sends.items) h.moves p.moves; told = p.told; kept = p.kept })
-    go (Err end.SinkFault) p = (h.event, record { moves = Moves-before a.link m b.link (receive_of h.event ∷ []) h.moves p.moves; told = subst (AddsFront a.out b.out) takes.shows p.told; kept = p.kept })
-    go (Err end.BookFault) p = (h.event, record { moves = Moves-before a.link m b.link (receive_of h.event ∷ []) h.moves p.moves; told = p.told; kept = p.kept })
+    go (Ok u) p = (
+      h.event,
+      output,
+      takes,
+      record { moves = Moves-trans a.link m b.link (receive_of h.event ∷ []) (map sending output.sends.items) h.moves p.moves; told = p.told; in_pieces = p.in_pieces; kept = p.kept },
+    )
+    go (Err end.SinkFault) p = (
+      h.event,
+      record {
+        moves = Moves-before a.link m b.link (receive_of h.event ∷ []) h.moves p.moves;
+        told = subst (AddsFront a.out b.out) takes.shows p.told;
+        in_pieces = subst (AddsCut a.pieces b.pieces []) takes.shows p.in_pieces;
+        kept = p.kept;
+      },
+    )
+    go (Err end.BookFault) p =
+        (h.event, record { moves = Moves-before a.link m b.link (receive_of h.event ∷ []) h.moves p.moves; told = p.told; in_pieces = p.in_pieces; kept = p.kept })
     go (Err end.Done) p = absurd p
     go (Err end.Unanswered) p = absurd p
     go (Err end.LinkFault) p = absurd p
@@ -124,6 +149,8 @@ coord_ran_none S logs number requests coord_node a is = record {
   logged = [];
   counted = refl;
   run = subst (λ d. IsCoordRun S number requests [] (coord_node_state_of d requests [] [] [] [])) (sym is) begun;
+  pieces = [];
+  written = subst (λ d. AreWritten S number requests [] (coord_node_state_of d requests [] [] [] []) []) (sym is) none_written;
   does = does_nothing logs a;
 }
 
@@ -157,13 +184,13 @@ pub logged_behind : (program : Workload) (some more : List LogLine) → lines_te
 logged_behind program some more = sym (flat_map-append (log_line_text program) some more)
 
 -- lines behind others
-told_more : (program : Workload) (logs : Bool) (traffic next : List LinkEvent) (lines more : List Line) (logged later : List LogLine) (text : List ℕ) (a b c : Seen) → text ≡ report_text program more
-    → Does logs traffic (report_text program lines) (lines_text program logged) a b → Does logs next text (lines_text program later) b c
-    → Does logs (traffic ++ next) (report_text program (lines ++ more)) (lines_text program (logged ++ later)) a c
-told_more program logs traffic next lines more logged later text a b c shows p q =
-    subst (λ t. Does logs (traffic ++ next) t (lines_text program (logged ++ later)) a c) (ap (λ l. report_text program lines ++ l) shows ∙ lines_behind program lines more)
-    (subst (λ l. Does logs (traffic ++ next) (report_text program lines ++ text) l a c) (logged_behind program logged later)
-    (does_more logs traffic next (report_text program lines) text (lines_text program logged) (lines_text program later) a b c p q))
+told_more : (program : Workload) (logs : Bool) (traffic next : List LinkEvent) (lines more : List Line) (pieces others : List (List ℕ)) (logged later : List LogLine) (text : List ℕ) (a b c : Seen)
+    → text ≡ report_text program more → Does logs traffic (report_text program lines) pieces (lines_text program logged) a b → Does logs next text others (lines_text program later) b c
+    → Does logs (traffic ++ next) (report_text program (lines ++ more)) (pieces ++ others) (lines_text program (logged ++ later)) a c
+told_more program logs traffic next lines more pieces others logged later text a b c shows p q =
+    subst (λ t. Does logs (traffic ++ next) t (pieces ++ others) (lines_text program (logged ++ later)) a c) (ap (λ l. report_text program lines ++ l) shows ∙ lines_behind program lines more)
+    (subst (λ l. Does logs (traffic ++ next) (report_text program lines ++ text) (pieces ++ others) l a c) (logged_behind program logged later)
+    (does_more logs traffic next (report_text program lines) text pieces others (lines_text program logged) (lines_text program later) a b c p q))
 
 -- behind the submissions of a turn: what the node is, and what was sent and written
 pub record Halved (S : NodeSetting) (logs : Bool) (number : ℕ) (requests : List Request) (count : ℕ) (coord_node : CoordNode) (a b : Seen) : Type 0 where
@@ -177,7 +204,9 @@ pub record Halved (S : NodeSetting) (logs : Bool) (number : ℕ) (requests : Lis
   pub run : IsCoordRun S number requests events node
   pub goes : is_answered node ≡ false
   pub is : coord_submitted S node ≡ coord_node_state_of coord_node requests messages traffic lines logged
-  pub does : Does logs traffic (report_text S.plan.program lines) (lines_text S.plan.program logged) a b
+  pub pieces : List (List ℕ)
+  pub written : AreWritten S number requests events node pieces
+  pub does : Does logs traffic (report_text S.plan.program lines) (half_pieces S node true pieces) (lines_text S.plan.program logged) a b
 
 pub halved : (S : NodeSetting) (logs : Bool) (number : ℕ) (requests : List Request) (count : ℕ) (old new : CoordNode) (a b c : Seen)
     → CoordRanSo S logs number requests count old a b → false ≡ is_answered (coord_node_state_of old requests [] [] [] []) → HalfSubmits (Ok tt) S logs requests old new b c
@@ -194,7 +223,11 @@ halved S logs number requests count old new a b c r goes h =
       run = r.run;
       goes = sym goes;
       is = submitted_node S logs requests old new output r.messages r.traffic r.lines r.logged m;
-      does = told_more S.plan.program logs r.traffic (map sending output.sends.items) r.lines m.lines r.logged m.logged output.text.items a b c m.shows r.does h.2;
+      pieces = r.pieces;
+      written = r.written;
+      does = subst (λ t. Does logs (r.traffic ++ map sending output.sends.items) (report_text S.plan.program (r.lines ++ m.lines)) (r.pieces ++ piece_of t) (lines_text S.plan.program (r.logged ++ m.logged)) a c)
+          (m.shows ∙ ap (λ (s : Submissions). report_text S.plan.program s.lines) (sym m.is))
+          (told_more S.plan.program logs r.traffic (map sending output.sends.items) r.lines m.lines r.pieces (piece_of output.text.items) r.logged m.logged output.text.items a b c m.shows r.does h.2);
     }
 
 -- the node behind an event
@@ -212,7 +245,10 @@ pub coord_ran_more : (S : NodeSetting) (logs : Bool) (number : ℕ) (requests : 
     → HalfTakes (Ok tt) S logs mid new c d → CoordRanSo S logs number requests (count + 1) new a d
 coord_ran_more S logs number requests count old mid new a b c d r goes s t =
     let h = halved S logs number requests count old mid a b c r goes s in
-    let event = t.0 in let output = t.1 in let takes = t.2 in let step = step_of_event S mid.coord event in let sends = map sending output.sends.items in record {
+    let event = t.0 in let output = t.1 in let takes = t.2 in let step = step_of_event S mid.coord event in let sends = map sending output.sends.items in
+    let before = piece_of (submissions_text S h.node) in
+    let reply : output.text.items ≡ reply_text S h.node event =
+    takes.shows ∙ ap (λ (n : CoordNodeState). report_text S.plan.program (reply_lines (step_of_event S n.state event).answer)) (sym h.is) in record {
       events = h.events ++ event ∷ [];
       messages = h.messages ++ step.sends;
       traffic = (h.traffic ++ receive_of event ∷ []) ++ sends;
@@ -220,7 +256,14 @@ coord_ran_more S logs number requests count old mid new a b c d r goes s t =
       logged = h.logged ++ logged_of S mid.coord event;
       counted = let e = h.counted in length-append h.events (event ∷ []) ∙ ap (λ n. n + 1) e;
       run = subst (IsCoordRun S number requests (h.events ++ event ∷ [])) (turned S logs number requests count mid new a c h event output takes) (goes_on event h.run h.goes);
-      does = subst (λ l. Does logs l (report_text S.plan.program (h.lines ++ reply_lines step.answer)) (lines_text S.plan.program (h.logged ++ logged_of S mid.coord event)) a d)
+      pieces = h.pieces ++ (before ++ piece_of (reply_text S h.node event));
+      written = subst (λ (n : CoordNodeState). AreWritten S number requests (h.events ++ event ∷ []) n (h.pieces ++ (before ++ piece_of (reply_text S h.node event))))
+          (turned S logs number requests count mid new a c h event output takes) (turn_written event h.written h.goes);
+      does = subst (λ l. Does logs l (report_text S.plan.program (h.lines ++ reply_lines step.answer)) (h.pieces ++ (before ++ piece_of (reply_text S h.node event)))
+          (lines_text S.plan.program (h.logged ++ logged_of S mid.coord event)) a d)
           (sym (append_assoc h.traffic (receive_of event ∷ []) sends))
-          (told_more S.plan.program logs h.traffic (receive_of event ∷ sends) h.lines (reply_lines step.answer) h.logged (logged_of S mid.coord event) output.text.items a c d takes.shows h.does t.3);
+          (subst (λ w. Does logs (h.traffic ++ receive_of event ∷ sends) (report_text S.plan.program (h.lines ++ reply_lines step.answer)) w (lines_text S.plan.program (h.logged ++ logged_of S mid.coord event)) a d)
+          (append_assoc h.pieces before (piece_of output.text.items) ∙ ap (λ t. h.pieces ++ (before ++ piece_of t)) reply)
+          (told_more S.plan.program logs h.traffic (receive_of event ∷ sends) h.lines (reply_lines step.answer) (h.pieces ++ before) (piece_of output.text.items) h.logged (logged_of S mid.coord event)
+          output.text.items a c d takes.shows h.does t.3));
     }

@@ -8,3 +8,4 @@ mod Runs
 mod CoordNodes
 mod Submitted
 mod Told
+mod Writing

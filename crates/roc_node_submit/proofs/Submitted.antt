@@ -18,6 +18,7 @@ use Rattle.roc_node_submit.specs.declared.ends.SubmitEnd.TheVariants as end
 use Rattle.roc_node.specs.NodeEvent.{receive_of, NodeSetting}
 use Rattle.roc_node_submit.specs.CoordRun.{CoordNodeState, is_answered, step_of_event, reply_lines}
 use Rattle.roc_node_submit.specs.SubmitEnd.{BeginsLog, TurnsCall, Submits, first_logged, cut_off, wanted, unlogged_submissions, unlogged_event, untold_submissions, untold_reply, untold_end, over, IsUnbound, BindsAndSubmits, unready, unopened, unlogged_node}
+use Rattle.roc_node_submit.specs.Pieces.{half_pieces}
 use Rattle.roc_node_submit.specs.Inner.CoordTurn.{coord_node_state_of, logged_of, submissions_from, Gains, Seen, Does, FailsSink, FailsBook, HalfSubmits, HalfTakes, CoordRanSo, ClosesSubmit, Begins}
 use Rattle.roc_node_submit.proofs.Booked.{call, keeps, keeps_front, gains_more, logs_there, does_still}
 use Rattle.roc_node_submit.proofs.Coords.{Halved, halved, logged_behind}
@@ -35,24 +36,25 @@ module _ (S : NodeSetting) (logs : Bool) (number : ℕ) (requests : List Request
   Ends b end = Submits S number requests turns log (call_of a b) (call begun b.book) end
 
   -- the log has these lines
-  kept : (traffic : List LinkEvent) (text : List ℕ) (logged : List LogLine) (b : Seen) → Does logs traffic text (lines_text S.plan.program logged) a b
+  kept : (traffic : List LinkEvent) (text : List ℕ) (pieces : List (List ℕ)) (logged : List LogLine) (b : Seen) → Does logs traffic text pieces (lines_text S.plan.program logged) a b
       → Keeps log (call begun b.book) (first_logged S ++ lines_text S.plan.program logged)
-  kept traffic text logged b does = keeps logs log (first_logged S) (lines_text S.plan.program logged) begun a.book b.book begins does.kept
+  kept traffic text pieces logged b does = keeps logs log (first_logged S) (lines_text S.plan.program logged) begun a.book b.book begins does.kept
 
   -- and a front of a text behind them
-  kept_front : (traffic next : List LinkEvent) (text : List ℕ) (logged : List LogLine) (cut : List ℕ) (b c : Seen) → Does logs traffic text (lines_text S.plan.program logged) a b → FailsBook logs next cut b c
+  kept_front : (traffic next : List LinkEvent) (text : List ℕ) (pieces : List (List ℕ)) (logged : List LogLine) (cut : List ℕ) (b c : Seen)
+      → Does logs traffic text pieces (lines_text S.plan.program logged) a b → FailsBook logs next cut b c
       → KeepsFront log (call begun c.book) (first_logged S ++ lines_text S.plan.program logged) cut
-  kept_front traffic next text logged cut b c does fails = keeps_front logs log (first_logged S) begun a.book b.book c.book (lines_text S.plan.program logged) cut begins does.kept fails.kept
+  kept_front traffic next text pieces logged cut b c does fails = keeps_front logs log (first_logged S) begun a.book b.book c.book (lines_text S.plan.program logged) cut begins does.kept fails.kept
 
   -- a log is kept, where it fails
   log_there : (next : List LinkEvent) (cut : List ℕ) (b c : Seen) → FailsBook logs next cut b c → is_some log ≡ true
   log_there next cut b c fails = begins.asked ∙ logs_there logs b.book c.book cut fails.kept
 
   -- and these lines behind them
-  kept_more : (traffic next : List LinkEvent) (text cut : List ℕ) (logged later : List LogLine) (b c : Seen) → Does logs traffic text (lines_text S.plan.program logged) a b
+  kept_more : (traffic next : List LinkEvent) (text cut : List ℕ) (pieces : List (List ℕ)) (logged later : List LogLine) (b c : Seen) → Does logs traffic text pieces (lines_text S.plan.program logged) a b
       → FailsSink logs next cut (lines_text S.plan.program later) b c
       → Keeps log (call begun c.book) (first_logged S ++ lines_text S.plan.program (logged ++ later))
-  kept_more traffic next text cut logged later b c does fails =
+  kept_more traffic next text cut pieces logged later b c does fails =
       keeps logs log (first_logged S) (lines_text S.plan.program (logged ++ later)) begun a.book c.book begins
       (subst (Gains logs a.book c.book) (logged_behind S.plan.program logged later)
       (gains_more logs a.book b.book c.book (lines_text S.plan.program logged) (lines_text S.plan.program later) does.kept fails.kept))
@@ -61,23 +63,23 @@ module _ (S : NodeSetting) (logs : Bool) (number : ℕ) (requests : List Request
       → false ≡ is_answered (coord_node_state_of old requests [] [] [] []) → HalfSubmits (Err e) S logs requests old new b c → Ends c e
   submit_half_ends end.NoMemory count old new b c below r goes h =
       let counted = r.counted in
-      let all = does_still logs r.traffic [] (report_text S.plan.program r.lines) (lines_text S.plan.program r.logged) a b c r.does h in
+      let all = does_still logs r.traffic [] (report_text S.plan.program r.lines) r.pieces (lines_text S.plan.program r.logged) a b c r.does h in
       wanted r.events (coord_node_state_of old requests r.messages r.traffic r.lines r.logged) false [] r.run (omega arith) (omega arith) all.moves all.told
-      (kept (r.traffic ++ []) (report_text S.plan.program r.lines) r.logged c all)
+      (kept (r.traffic ++ []) (report_text S.plan.program r.lines) r.pieces r.logged c all)
   submit_half_ends end.SinkFault count old new b c below r goes h =
       let counted = r.counted in
       let does = r.does in
       let s = submissions_from S requests old in
       untold_submissions r.events (coord_node_state_of old requests r.messages r.traffic r.lines r.logged) r.run (sym goes) (omega arith) (Moves-before a.link b.link c.link r.traffic does.moves h.moves)
       (AddsThenFront-behind a.out b.out c.out (report_text S.plan.program r.lines) (report_text S.plan.program s.lines) does.told h.told)
-      (kept_more r.traffic [] (report_text S.plan.program r.lines) (report_text S.plan.program s.lines) r.logged s.logged b c does h)
+      (kept_more r.traffic [] (report_text S.plan.program r.lines) (report_text S.plan.program s.lines) r.pieces r.logged s.logged b c does h)
   submit_half_ends end.BookFault count old new b c below r goes h =
       let counted = r.counted in
       let does = r.does in
       let s = submissions_from S requests old in
       unlogged_submissions r.events (coord_node_state_of old requests r.messages r.traffic r.lines r.logged) (log_there [] (lines_text S.plan.program s.logged) b c h) r.run (sym goes) (omega arith) (Moves-before a.link b.link c.link r.traffic does.moves h.moves)
       (still a.out b.out c.out (report_text S.plan.program r.lines) does.told h.told)
-      (kept_front r.traffic [] (report_text S.plan.program r.lines) r.logged (lines_text S.plan.program s.logged) b c does h)
+      (kept_front r.traffic [] (report_text S.plan.program r.lines) r.pieces r.logged (lines_text S.plan.program s.logged) b c does h)
   submit_half_ends end.Done count old new b c below r goes h = absurd h
   submit_half_ends end.Unanswered count old new b c below r goes h = absurd h
   submit_half_ends end.LinkFault count old new b c below r goes h = absurd h
@@ -86,20 +88,20 @@ module _ (S : NodeSetting) (logs : Bool) (number : ℕ) (requests : List Request
   half_ends end.NoMemory count mid new c d below h t =
       let counted = h.counted in
       let few = t.1 in
-      let all = does_still logs h.traffic (map receiving t.0) (report_text S.plan.program h.lines) (lines_text S.plan.program h.logged) a c d h.does t.2 in
+      let all = does_still logs h.traffic (map receiving t.0) (report_text S.plan.program h.lines) (half_pieces S h.node true h.pieces) (lines_text S.plan.program h.logged) a c d h.does t.2 in
       wanted h.events h.node true t.0 h.run few (omega arith)
       (subst (λ l. Moves a.link d.link (l ++ map receiving t.0)) (sym (ap (λ (n : CoordNodeState). n.traffic) h.is)) all.moves)
       (subst (λ l. Adds a.out d.out (report_text S.plan.program l)) (sym (ap (λ (n : CoordNodeState). n.lines) h.is)) all.told)
       (subst (λ l. Keeps log (call begun d.book) (first_logged S ++ lines_text S.plan.program l)) (sym (ap (λ (n : CoordNodeState). n.logged) h.is))
-      (kept (h.traffic ++ map receiving t.0) (report_text S.plan.program h.lines) h.logged d all))
+      (kept (h.traffic ++ map receiving t.0) (report_text S.plan.program h.lines) (half_pieces S h.node true h.pieces) h.logged d all))
   half_ends end.LinkFault count mid new c d below h t =
       let counted = h.counted in
-      let all = does_still logs h.traffic (receiving vain ∷ []) (report_text S.plan.program h.lines) (lines_text S.plan.program h.logged) a c d h.does t in
+      let all = does_still logs h.traffic (receiving vain ∷ []) (report_text S.plan.program h.lines) (half_pieces S h.node true h.pieces) (lines_text S.plan.program h.logged) a c d h.does t in
       cut_off h.events h.node h.run h.goes (omega arith)
       (subst (λ l. Moves a.link d.link (l ++ receiving vain ∷ [])) (sym (ap (λ (n : CoordNodeState). n.traffic) h.is)) all.moves)
       (subst (λ l. Adds a.out d.out (report_text S.plan.program l)) (sym (ap (λ (n : CoordNodeState). n.lines) h.is)) all.told)
       (subst (λ l. Keeps log (call begun d.book) (first_logged S ++ lines_text S.plan.program l)) (sym (ap (λ (n : CoordNodeState). n.logged) h.is))
-      (kept (h.traffic ++ receiving vain ∷ []) (report_text S.plan.program h.lines) h.logged d all))
+      (kept (h.traffic ++ receiving vain ∷ []) (report_text S.plan.program h.lines) (half_pieces S h.node true h.pieces) h.logged d all))
   half_ends end.SinkFault count mid new c d below h t =
       let counted = h.counted in
       let does = h.does in
@@ -110,7 +112,7 @@ module _ (S : NodeSetting) (logs : Bool) (number : ℕ) (requests : List Request
       (subst (λ (n : CoordNodeState). AddsThenFront a.out d.out (report_text S.plan.program n.lines) (report_text S.plan.program (reply_lines (step_of_event S n.state t.0).answer))) (sym h.is)
       (AddsThenFront-behind a.out c.out d.out (report_text S.plan.program h.lines) (report_text S.plan.program (reply_lines step.answer)) does.told fails.told))
       (subst (λ (n : CoordNodeState). Keeps log (call begun d.book) (first_logged S ++ lines_text S.plan.program (n.logged ++ logged_of S n.state t.0))) (sym h.is)
-      (kept_more h.traffic (receive_of t.0 ∷ []) (report_text S.plan.program h.lines) (report_text S.plan.program (reply_lines step.answer)) h.logged (logged_of S mid.coord t.0) c d does fails))
+      (kept_more h.traffic (receive_of t.0 ∷ []) (report_text S.plan.program h.lines) (report_text S.plan.program (reply_lines step.answer)) (half_pieces S h.node true h.pieces) h.logged (logged_of S mid.coord t.0) c d does fails))
   half_ends end.BookFault count mid new c d below h t =
       let counted = h.counted in
       let does = h.does in
@@ -119,7 +121,7 @@ module _ (S : NodeSetting) (logs : Bool) (number : ℕ) (requests : List Request
       (subst (λ l. Moves a.link d.link (l ++ receive_of t.0 ∷ [])) (sym (ap (λ (n : CoordNodeState). n.traffic) h.is)) (Moves-trans a.link c.link d.link h.traffic (receive_of t.0 ∷ []) does.moves fails.moves))
       (subst (λ l. Adds a.out d.out (report_text S.plan.program l)) (sym (ap (λ (n : CoordNodeState). n.lines) h.is)) (still a.out c.out d.out (report_text S.plan.program h.lines) does.told fails.told))
       (subst (λ (n : CoordNodeState). KeepsFront log (call begun d.book) (first_logged S ++ lines_text S.plan.program n.logged) (lines_text S.plan.program (logged_of S n.state t.0))) (sym h.is)
-      (kept_front h.traffic (receive_of t.0 ∷ []) (report_text S.plan.program h.lines) h.logged (lines_text S.plan.program (logged_of S mid.coord t.0)) c d does fails))
+      (kept_front h.traffic (receive_of t.0 ∷ []) (report_text S.plan.program h.lines) (half_pieces S h.node true h.pieces) h.logged (lines_text S.plan.program (logged_of S mid.coord t.0)) c d does fails))
   half_ends end.Done count mid new c d below h t = absurd t
   half_ends end.Unanswered count mid new c d below h t = absurd t
 
@@ -133,7 +135,7 @@ module _ (S : NodeSetting) (logs : Bool) (number : ℕ) (requests : List Request
       → Submits S number requests turns log (call_of a (record b { out = out })) (call begun b.book) e
   submit_over e count coord_node b out le r ends closes = go e closes
     where
-      does : Does logs r.traffic (report_text S.plan.program r.lines) (lines_text S.plan.program r.logged) a b
+      does : Does logs r.traffic (report_text S.plan.program r.lines) r.pieces (lines_text S.plan.program r.logged) a b
       does = r.does
 
       few : length r.events ≤ turns
@@ -147,7 +149,7 @@ module _ (S : NodeSetting) (logs : Bool) (number : ℕ) (requests : List Request
       whole not = r.counted ∙ last ends not
 
       in_log : Keeps log (call begun b.book) (first_logged S ++ lines_text S.plan.program r.logged)
-      in_log = kept r.traffic (report_text S.plan.program r.lines) r.logged b does
+      in_log = kept r.traffic (report_text S.plan.program r.lines) r.pieces r.logged b does
 
       go : (e : SubmitEnd) → ClosesSubmit e (coord_node_state_of coord_node requests [] [] [] []) b.out out → Submits S number requests turns log (call_of a (record b { out = out })) (call begun b.book) e
       go end.Done c =

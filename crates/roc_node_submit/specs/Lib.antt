@@ -1,4 +1,5 @@
 pub mod CoordRun
 pub mod EachAnswered
 pub mod SubmitEnd
+pub mod Pieces
 pub mod Inner

@@ -2,7 +2,7 @@
 ghost use Rattle.std.specs.Prelude.{◌≡◌, ◌≤◌, ℕ, List, Bool, false, [], length, OnOk};
 ghost use Rattle.roc_io.specs.Call.{link_view};
 ghost use Rattle.roc_io.specs.Cause.{HasCause};
-ghost use Rattle.roc_io.specs.Sink.{write_failed, Takes};
+ghost use Rattle.roc_io.specs.Sink.{write_failed, Takes, WritesPiece};
 ghost use Rattle.roc_book.specs.Call.{book_view};
 ghost use Rattle.roc_coord.specs.Fits.{CoordFits};
 ghost use Rattle.roc_wire.specs.Fits.{FitsHeader};
@@ -29,10 +29,11 @@ fn write_log<B: Book>(book: &mut B, piece: &[u8]) -> Written
     book.write(piece)
 }
 
-// Writes a text, unless it is empty.
+// Writes a text in one piece, unless it is empty.
 fn write_text<S: Sink>(out: &mut S, text: &[u8]) -> Written
     ensures cause { HasCause (write_failed result) (S.faults out.old) (S.faults out.new) }
     ensures taken { Takes result (S.taken out.old) (S.taken out.new) text.now }
+    ensures pieces { WritesPiece result (S.pieces out.old) (S.pieces out.new) text.now }
 {
     if text.is_empty() {
         return Written::Ok;

@@ -8,7 +8,8 @@ ghost use Rattle.roc_node.specs.NodeEvent.{node_setting};
 ghost use Rattle.roc_node.specs.NodeLine.{node_line_text, node_lines_text};
 ghost use Rattle.roc_node_submit.specs.CoordRun.{is_answered};
 ghost use Rattle.roc_log.specs.LogLine.{node_line_text as log_first_line};
-ghost use Rattle.roc_node_submit.specs.Inner.CoordTurn.{coord_node_state_of, Begins, ClosesSubmit, half_book_failed, half_link_failed, half_sink_failed};
+ghost use Rattle.roc_node_submit.specs.Inner.CoordTurn.{coord_node_state_of, Begins, ClosesInPiece, ClosesSubmit, half_book_failed, half_link_failed, half_sink_failed};
+ghost use Rattle.roc_node_submit.specs.Pieces.{WritesTurnsInPieces};
 ghost use Rattle.roc_node_submit.specs.SubmitEnd.{closing_text, Submits, BindsAndSubmits, BeginsLog, first_logged, submit_link_failed, submit_sink_failed, submit_book_failed};
 ghost use Rattle.roc_book.specs.Call.{BookView, book_call, book_view};
 
@@ -55,6 +56,8 @@ pub fn submit_turns<L: Link, S: Sink, B: Book>(
     ensures bound { L.bound link.new ≡ L.bound link.old }
     // Without a log the book is not touched.
     ensures book_stays { logs ≡ false → book.new ≡ book.old }
+    // All lines of the submissions before a turn go out in one write, and all last lines in one; where there are none, there is no write.
+    ensures pieces { WritesTurnsInPieces (node_setting plan.now tag (node.Coord coord) cluster.now) coord requests.now (S.pieces out.old) (S.pieces out.new) result }
     // What the node's run gives over the arrivals is what was sent and written, and what the log has, whatever name it was begun under.
     ensures submits { (log : Option (List ℕ)) → (begun : BookView)
         → BeginsLog logs log (first_logged (node_setting plan.now tag (node.Coord coord) cluster.now)) begun (book_view B.Book book.old)
@@ -169,6 +172,7 @@ fn close<S: Sink>(
     ensures link { submit_link_failed result ≡ false }
     ensures book { submit_book_failed result ≡ false }
     ensures closes { ClosesSubmit result (coord_node_state_of coord_node.now requests.now [] [] [] []) (S.taken out.old) (S.taken out.new) }
+    ensures pieces { ClosesInPiece result (coord_node_state_of coord_node.now requests.now [] [] [] []) (S.pieces out.old) (S.pieces out.new) }
 {
     let mut text = Vec::new(alloc);
     if push_closing(alloc, &mut text, coord_node, requests).is_err() {
@@ -239,6 +243,8 @@ pub fn submit_all<L: Link, S: Sink, B: Book>(
     ensures book_cause { HasCause (submit_book_failed result) (B.faults book.old) (B.faults book.new) }
     // Without a log the book is not touched.
     ensures book_stays { log.entry ≡ None → book.new ≡ book.old }
+    // What goes out in one write.
+    ensures pieces { WritesTurnsInPieces (node_setting plan.now tag (node.Coord coord) cluster.now) coord requests.now (S.pieces out.old) (S.pieces out.new) result }
     ensures submits { BindsAndSubmits (node_setting plan.now tag (node.Coord coord) cluster.now) coord requests.now turns (option_map (λ name. name.now) log.entry)
         (record { link = link_call L.Link link.old link.new; out = sink_call S.Sink out.old out.new }) (book_call B.Book book.old book.new)
         result }

@@ -7,6 +7,7 @@ pub mod Growing
 pub mod IgnoredLines
 pub mod NothingPlayed
 pub mod OneReport
+pub mod PiecesSoFar
 pub mod Playing
 pub mod QuietLines
 mod Deliveries

@@ -3,7 +3,8 @@
 //! one plan and 16 coordinators; or of two, of which the nodes may go over to the second while they run, and as many
 //! coordinators as the caller says. The second then judges the lines of the schedule, and names what the report shows.
 //!
-//! The contract of [`replay`] cites `specs/Ended.antt`, which has what each end says; `specs/Report.antt` has the lines
+//! The contract of [`replay`] cites `specs/Ended.antt`, which has what each end says, and `specs/Pieces.antt`, which has
+//! what goes out in one write; `specs/Report.antt` has the lines
 //! of a run, on `specs/Cells.antt`; `specs/BoundLine.antt` what the lines of a schedule ask for, `specs/Played.antt` how
 //! they are played, and `specs/Readback.antt` what lines tell of themselves (`IsExplained`).
 //!

@@ -10,9 +10,10 @@ ghost use Rattle.roc_growth.specs.World.{first_grown_world};
 ghost use Rattle.roc_growth.specs.Run.{AreCoordsOf, IsEventOf};
 ghost use Rattle.roc_growth.specs.Quiet.{messages_of};
 ghost use Rattle.roc_replay.specs.BoundLine.{IsScheduleOf, WantedFits, coordinators, last_program, chosen, event_in};
-ghost use Rattle.roc_replay.specs.Inner.Closed.{IsClosed, is_sent_to, asks_unsent, wants_unsent};
+ghost use Rattle.roc_replay.specs.Inner.Closed.{IsClosed, ClosesInPiece, is_sent_to, asks_unsent, wants_unsent};
 ghost use Rattle.roc_replay.specs.Ended.{is_sink_fault};
 ghost use Rattle.roc_replay.specs.Inner.Ends.{IsEnd};
+ghost use Rattle.roc_replay.specs.Pieces.{GoesOutInPieces};
 ghost use Rattle.roc_replay.specs.Played.{IsPlayedLine};
 ghost use Rattle.roc_replay.specs.Report.{first_lines, busy_in};
 
@@ -61,6 +62,8 @@ pub fn play<S: Sink>(
     requires fits { AllByRecursion (λ line. WantedFits plan.now (option_copied next) line.wanted) lines.now }
     ensures ends { (schedule : List ℕ) → IsScheduleOf plan.now (option_copied next.entry) schedule lines.now
         → IsEnd plan.now (option_copied next.entry) schedule result (S.taken sink.old) (S.taken sink.new) }
+    ensures pieces { (schedule : List ℕ) → IsScheduleOf plan.now (option_copied next.entry) schedule lines.now
+        → GoesOutInPieces plan.now (option_copied next.entry) schedule (S.pieces sink.old) (S.pieces sink.new) result }
     ensures sink { HasCause (is_sink_fault result) (S.faults sink.old) (S.faults sink.new) }
 {
     let Ok(mut world) = World::new(alloc, plan, next, coordinators(next)) else {
@@ -84,6 +87,8 @@ fn play_lines<S: Sink>(
     requires world { FitsGrown plan.now (option_copied next) world.old }
     ensures ends { (schedule : List ℕ) → IsScheduleOf plan.now (option_copied next.entry) schedule lines.now
         → IsEnd plan.now (option_copied next.entry) schedule result (S.taken sink.old) (S.taken sink.new) }
+    ensures pieces { (schedule : List ℕ) → IsScheduleOf plan.now (option_copied next.entry) schedule lines.now
+        → GoesOutInPieces plan.now (option_copied next.entry) schedule (S.pieces sink.old) (S.pieces sink.new) result }
     ensures sink { HasCause (is_sink_fault result) (S.faults sink.old) (S.faults sink.new) }
 {
     plans_are_accepted(plan);
@@ -118,6 +123,7 @@ fn close<S: Sink>(
     sink: &mut S,
 ) -> Ended
     ensures closed { IsClosed workload.now world.now busy result (S.taken sink.old) (S.taken sink.new) }
+    ensures pieces { ClosesInPiece workload.now world.now result (S.pieces sink.old) (S.pieces sink.new) }
     ensures sink { HasCause (is_sink_fault result) (S.faults sink.old) (S.faults sink.new) }
 {
     let Ok(closing) = last_lines(alloc, workload, world, busy) else {

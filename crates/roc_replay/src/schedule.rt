@@ -6,6 +6,7 @@ ghost use Rattle.roc_io.specs.Cause.{HasCause, last_count};
 ghost use Rattle.roc_replay.specs.declared.asked.BoundLine.{BoundLine};
 ghost use Rattle.roc_replay.specs.BoundLine.{IsScheduleOf};
 ghost use Rattle.roc_replay.specs.Ended.{IfDone, IfText, OnSinkFault, OnNoMemory, IsWhole, is_sink_fault, IsReplayed, IsTextFault, IsCut, IsUnfinished};
+ghost use Rattle.roc_replay.specs.Pieces.{GoesOutInPieces};
 ghost use Rattle.roc_replay.specs.Played.{AsksOnlySent};
 
 use crate::Ended;
@@ -43,6 +44,8 @@ pub fn replay<S: Sink>(
     ensures cut { OnSinkFault result (IsCut plan.now (option_copied next.entry) schedule.now (S.taken sink.old) (S.taken sink.new)) }
     // Where memory ran out, the sink took the text of the lines before, and of no line a part.
     ensures unfinished { OnNoMemory result (IsUnfinished plan.now (option_copied next.entry) schedule.now (S.taken sink.old) (S.taken sink.new)) }
+    // All that comes of a line of the schedule went out in one write, and the closing lines in one behind them.
+    ensures pieces { GoesOutInPieces plan.now (option_copied next.entry) schedule.now (S.pieces sink.old) (S.pieces sink.new) result }
     // A schedule of the last plan that asks only for what was sent is played whole, where no failure is counted and memory suffices.
     ensures complete { (lines : List BoundLine) → IsScheduleOf plan.now (option_copied next.entry) schedule.now lines → AsksOnlySent plan.now (option_copied next.entry) lines
         → S.faults sink.new ≡ S.faults sink.old → S.faults sink.old < last_count → IsWhole result }

@@ -7,11 +7,13 @@ use Rattle.roc_grown_submit.specs.GrownCoordRun.{GrownCoordNodeState, GrownSubmi
 use Rattle.roc_grown_submit.specs.GrownCoordRun.{submitted_first, submitted_later, grown_submissions_of}
 use Rattle.roc_grown_submit.specs.GrownCoordRun.{grown_step_of_event, grown_reply_lines, grown_answered_then}
 use Rattle.roc_grown_submit.specs.GrownEnd.{naming, grown_closing_text}
+use Rattle.roc_grown_submit.specs.GrownPieces.{AreGrownWritten}
 use Rattle.roc_grown_submit.specs.declared.coord_node.CoordNode.{CoordNode}
 use Rattle.roc_grown_submit.specs.declared.coord_node.TurnOutput.{TurnOutput}
 use Rattle.roc_io.specs.Call.{LinkView, link_view}
 use Rattle.roc_io.specs.Link.{LinkEvent, Reception, sending, receiving, vain}
 use Rattle.roc_io.specs.Observed.{Adds, AddsFront}
+use Rattle.roc_io.specs.Sink.{AddsCut, piece_of}
 use Rattle.roc_io.specs.declared.link.Link.{Ghosts as LinkOf}
 use Rattle.roc_io.specs.declared.sink.Sink.{Ghosts as SinkOf}
 use Rattle.roc_msg.specs.declared.outbox.Outgoing.{Outgoing}
@@ -45,27 +47,30 @@ bare_node coord_node requests later = grown_node_of coord_node requests later []
 
 -- ---- what is told
 
--- what the link and the sink of a node tell at one time
+-- what the link and the sink, by the writes too, of a node tell at one time
 pub record Seen : Type 0 where
   pub link : LinkView
   pub out : Option (List ℕ)
+  pub pieces : Option (List (List ℕ))
 
 abbrev pub seen : {L S : Type 0} → LinkOf L → SinkOf S → L → S → Seen
-seen L S link out = record { link = link_view L link; out = S.taken out }
+seen L S link out = record { link = link_view L link; out = S.taken out; pieces = S.pieces out }
 
--- the link was asked for this, and the sink took this text
-pub record Does (traffic : List LinkEvent) (text : List ℕ) (old new : Seen) : Type 0 where
+-- the link was asked for this, and the sink took this text, in these pieces
+pub record Does (traffic : List LinkEvent) (text : List ℕ) (pieces : List (List ℕ)) (old new : Seen) : Type 0 where
   pub moves : Moves old.link new.link traffic
   pub told : Adds old.out new.out text
+  pub in_pieces : Adds old.pieces new.pieces pieces
 
 -- the link was asked for this, and the sink took a front of this text, where it failed
 pub record FailsSink (traffic : List LinkEvent) (text : List ℕ) (old new : Seen) : Type 0 where
   pub moves : Moves old.link new.link traffic
   pub told : AddsFront old.out new.out text
+  pub in_pieces : AddsCut old.pieces new.pieces [] text
 
 -- What became of what is due. It goes to the sink first, and then to the link, until one fails
 abbrev pub PutsOut : Result (Unit {0}) SubmitEnd → TurnOutput → (old new : Seen) → Type 0
-PutsOut (Ok u) output old new = Does (map sending output.sends.items) output.text.items old new
+PutsOut (Ok u) output old new = Does (map sending output.sends.items) output.text.items (piece_of output.text.items) old new
 PutsOut (Err SinkFault) output old new = FailsSink [] output.text.items old new
 PutsOut (Err Done) output old new = ⊥
 PutsOut (Err Unanswered) output old new = ⊥
@@ -198,8 +203,8 @@ lines_from S requests later old = (grown_submissions_of S (bare_node old request
 -- what the drain and the submissions before a turn did to the link and the sink
 abbrev pub HalfSubmits : Result (Unit {0}) SubmitEnd → GrownNodeSetting → (requests later : List Request) → (old new : CoordNode) → (before after : Seen) → Type 0
 HalfSubmits (Ok u) S requests later old new before after =
-    (output : TurnOutput) × SubmitsHalf S requests later old new output × Does (map sending output.sends.items) output.text.items before after
-HalfSubmits (Err NoMemory) S requests later old new before after = Does [] [] before after
+    (output : TurnOutput) × SubmitsHalf S requests later old new output × Does (map sending output.sends.items) output.text.items (piece_of output.text.items) before after
+HalfSubmits (Err NoMemory) S requests later old new before after = Does [] [] [] before after
 HalfSubmits (Err SinkFault) S requests later old new before after = FailsSink [] (lines_text (naming S) (lines_from S requests later old)) before after
 HalfSubmits (Err Done) S requests later old new before after = ⊥
 HalfSubmits (Err Unanswered) S requests later old new before after = ⊥
@@ -237,9 +242,10 @@ lines_then S s event = grown_reply_lines (grown_step_of_event S s event).answer
 -- what a turn's receive did
 abbrev pub HalfTakes : Result (Unit {0}) SubmitEnd → GrownNodeSetting → (old new : CoordNode) → (before after : Seen) → Type 0
 HalfTakes (Ok u) S old new before after =
-    (event : NodeEvent) × (output : TurnOutput) × TakesHalf S event old new output × Does (receive_of event ∷ map sending output.sends.items) output.text.items before after
-HalfTakes (Err NoMemory) S old new before after = (last : List Reception) × (length last ≤ 1) × Does (map receiving last) [] before after
-HalfTakes (Err LinkFault) S old new before after = Does (receiving vain ∷ []) [] before after
+    (event : NodeEvent) × (output : TurnOutput) × TakesHalf S event old new output
+    × Does (receive_of event ∷ map sending output.sends.items) output.text.items (piece_of output.text.items) before after
+HalfTakes (Err NoMemory) S old new before after = (last : List Reception) × (length last ≤ 1) × Does (map receiving last) [] [] before after
+HalfTakes (Err LinkFault) S old new before after = Does (receiving vain ∷ []) [] [] before after
 HalfTakes (Err SinkFault) S old new before after = (event : NodeEvent) × FailsSink (receive_of event ∷ []) (lines_text (naming S) (lines_then S old.coord event)) before after
 HalfTakes (Err Done) S old new before after = ⊥
 HalfTakes (Err Unanswered) S old new before after = ⊥
@@ -253,7 +259,9 @@ pub record GrownRanSo (S : GrownNodeSetting) (number : ℕ) (requests later : Li
   pub lines : List Line
   pub counted : length events ≡ count
   pub run : IsGrownCoordRun S number requests later events (grown_node_of coord_node requests later messages traffic lines)
-  pub does : Does traffic (lines_text (naming S) lines) before after
+  pub pieces : List (List ℕ)
+  pub written : AreGrownWritten S number requests later events (grown_node_of coord_node requests later messages traffic lines) pieces
+  pub does : Does traffic (lines_text (naming S) lines) pieces before after
 
 -- the last lines were written, or a front of them, or nothing
 abbrev pub ClosesGrown : SubmitEnd → GrownCoordNodeState → Option (List ℕ) → Option (List ℕ) → Type 0
@@ -263,3 +271,12 @@ ClosesGrown SinkFault node old new = AddsFront old new (grown_closing_text node)
 ClosesGrown NoMemory node old new = new ≡ old
 ClosesGrown LinkFault node old new = ⊥
 ClosesGrown BookFault node old new = ⊥
+
+-- in one write, or a front of them, or none
+abbrev pub ClosesInPiece : SubmitEnd → GrownCoordNodeState → Option (List (List ℕ)) → Option (List (List ℕ)) → Type 0
+ClosesInPiece Done node old new = Adds old new (grown_closing_text node ∷ [])
+ClosesInPiece Unanswered node old new = Adds old new (grown_closing_text node ∷ [])
+ClosesInPiece SinkFault node old new = AddsCut old new [] (grown_closing_text node)
+ClosesInPiece NoMemory node old new = new ≡ old
+ClosesInPiece LinkFault node old new = ⊥
+ClosesInPiece BookFault node old new = ⊥

@@ -2,6 +2,7 @@
 use Rattle.std.specs.Prelude.{◌≡◌, ◌⊎◌, ℕ, ◌≤◌, Bool, true, false, List, [], ◌∷◌, ◌++◌, drop, take, length, map, Option, is_some, Result, Ok, Err, if◌then◌else◌}
 use Rattle.roc_io.specs.Link.{LinkEvent, Reception, sending, receiving, vain}
 use Rattle.roc_io.specs.Observed.{Adds, AddsFront}
+use Rattle.roc_io.specs.Sink.{AddsCut, piece_of}
 use Rattle.roc_io.specs.declared.sink.Written.{Written}
 use Rattle.roc_io.specs.declared.sink.Written.TheVariants.{Ok as WrittenOk, Failed}
 use Rattle.roc_coord.specs.State.{CoordState, CoordStep}
@@ -27,6 +28,7 @@ use Rattle.roc_node.specs.NodeEvent.{NodeEvent, receive_of, NodeSetting}
 use Rattle.roc_node_submit.specs.CoordRun.{CoordNodeState, Submissions, none_submitted, IsCoordRun, accepts, submitted, submitted_all}
 use Rattle.roc_node_submit.specs.CoordRun.{step_of_event, reply_lines, event_logged, answered_then, is_answered}
 use Rattle.roc_node_submit.specs.SubmitEnd.{submit_link_failed, submit_sink_failed, submit_book_failed, closing_text}
+use Rattle.roc_node_submit.specs.Pieces.{AreWritten}
 use Rattle.roc_node.specs.Losing.{LosesOne}
 
 -- a node that keeps this, sent these messages, asked this of its link, wrote these lines and has these in its log
@@ -53,36 +55,40 @@ GainsBy Failed false old new text = ⊥
 
 -- ---- what is told
 
--- what the link, the sink and the book of a node tell at one time
+-- what the link, the sink, by the writes too, and the book of a node tell at one time
 pub record Seen : Type 0 where
   pub link : LinkView
   pub out : Option (List ℕ)
+  pub pieces : Option (List (List ℕ))
   pub book : BookView
 
 abbrev pub seen : {L S B : Type 0} → LinkOf L → SinkOf S → BookOf B → L → S → B → Seen
-seen L S B link out book = record { link = link_view L link; out = S.taken out; book = book_view B book }
+seen L S B link out book = record { link = link_view L link; out = S.taken out; pieces = S.pieces out; book = book_view B book }
 
--- the link was asked for this, the sink took this text, and the book this one
-pub record Does (logs : Bool) (traffic : List LinkEvent) (text log : List ℕ) (old new : Seen) : Type 0 where
+-- the link was asked for this, the sink took this text, in these pieces, and the book this one
+pub record Does (logs : Bool) (traffic : List LinkEvent) (text : List ℕ) (pieces : List (List ℕ)) (log : List ℕ) (old new : Seen) : Type 0 where
   pub moves : Moves old.link new.link traffic
   pub told : Adds old.out new.out text
+  pub in_pieces : Adds old.pieces new.pieces pieces
   pub kept : Gains logs old.book new.book log
 
 -- the link was asked for this, the book took this text, and the sink a front of its own, where it failed
 pub record FailsSink (logs : Bool) (traffic : List LinkEvent) (text log : List ℕ) (old new : Seen) : Type 0 where
   pub moves : Moves old.link new.link traffic
   pub told : AddsFront old.out new.out text
+  pub in_pieces : AddsCut old.pieces new.pieces [] text
   pub kept : Gains logs old.book new.book log
 
 -- the link was asked for this, and the book took a front of this text, where it failed; the sink took nothing
 pub record FailsBook (logs : Bool) (traffic : List LinkEvent) (log : List ℕ) (old new : Seen) : Type 0 where
   pub moves : Moves old.link new.link traffic
   pub told : Adds old.out new.out []
+  pub in_pieces : new.pieces ≡ old.pieces
   pub kept : GainsBy Failed logs old.book new.book log
 
 -- What became of what is due, of which this is logged. It goes to the book first, then to the sink, and then to the link, until one fails
 abbrev pub PutsOut : Result (Unit {0}) SubmitEnd → (logs : Bool) → TurnOutput → (log : List ℕ) → (old new : Seen) → Type 0
-PutsOut (Ok u) logs output log old new = Does logs (map sending output.sends.items) output.text.items log old new
+PutsOut (Ok u) logs output log old new = Does logs (map sending output.sends.items) output.text.items (piece_of output.text.items) log old new
 PutsOut (Err SinkFault) logs output log old new = FailsSink logs [] output.text.items log old new
 PutsOut (Err BookFault) logs output log old new = FailsBook logs [] log old new
 PutsOut (Err Done) logs output log old new = ⊥
@@ -186,8 +192,9 @@ submissions_from S requests old = submitted_all S (none_submitted old.coord) (dr
 -- what the submissions before a turn did to the link, the sink and the book
 abbrev pub HalfSubmits : Result (Unit {0}) SubmitEnd → NodeSetting → (logs : Bool) → List Request → (old new : CoordNode) → (before after : Seen) → Type 0
 HalfSubmits (Ok u) S logs requests old new before after =
-    (output : TurnOutput) × (h : SubmitsHalf S logs requests old new output) × Does logs (map sending output.sends.items) output.text.items (lines_text S.plan.program h.logged) before after
-HalfSubmits (Err NoMemory) S logs requests old new before after = Does logs [] [] [] before after
+    (output : TurnOutput) × (h : SubmitsHalf S logs requests old new output)
+    × Does logs (map sending output.sends.items) output.text.items (piece_of output.text.items) (lines_text S.plan.program h.logged) before after
+HalfSubmits (Err NoMemory) S logs requests old new before after = Does logs [] [] [] [] before after
 HalfSubmits (Err SinkFault) S logs requests old new before after =
     FailsSink logs [] (report_text S.plan.program (submissions_from S requests old).lines) (lines_text S.plan.program (submissions_from S requests old).logged) before after
 HalfSubmits (Err BookFault) S logs requests old new before after = FailsBook logs [] (lines_text S.plan.program (submissions_from S requests old).logged) before after
@@ -219,9 +226,9 @@ due_failed (Err end) = submit_link_failed end
 abbrev pub HalfTakes : Result (Unit {0}) SubmitEnd → NodeSetting → (logs : Bool) → (old new : CoordNode) → (before after : Seen) → Type 0
 HalfTakes (Ok u) S logs old new before after =
     (event : NodeEvent) × (output : TurnOutput) × TakesHalf S logs event old new output
-    × Does logs (receive_of event ∷ map sending output.sends.items) output.text.items (lines_text S.plan.program (logged_of S old.coord event)) before after
-HalfTakes (Err NoMemory) S logs old new before after = (last : List Reception) × (length last ≤ 1) × Does logs (map receiving last) [] [] before after
-HalfTakes (Err LinkFault) S logs old new before after = Does logs (receiving vain ∷ []) [] [] before after
+    × Does logs (receive_of event ∷ map sending output.sends.items) output.text.items (piece_of output.text.items) (lines_text S.plan.program (logged_of S old.coord event)) before after
+HalfTakes (Err NoMemory) S logs old new before after = (last : List Reception) × (length last ≤ 1) × Does logs (map receiving last) [] [] [] before after
+HalfTakes (Err LinkFault) S logs old new before after = Does logs (receiving vain ∷ []) [] [] [] before after
 HalfTakes (Err SinkFault) S logs old new before after =
     (event : NodeEvent) × FailsSink logs (receive_of event ∷ []) (report_text S.plan.program (reply_lines (step_of_event S old.coord event).answer))
     (lines_text S.plan.program (logged_of S old.coord event)) before after
@@ -238,7 +245,9 @@ pub record CoordRanSo (S : NodeSetting) (logs : Bool) (number : ℕ) (requests :
   pub logged : List LogLine
   pub counted : length events ≡ count
   pub run : IsCoordRun S number requests events (coord_node_state_of coord_node requests messages traffic lines logged)
-  pub does : Does logs traffic (report_text S.plan.program lines) (lines_text S.plan.program logged) before after
+  pub pieces : List (List ℕ)
+  pub written : AreWritten S number requests events (coord_node_state_of coord_node requests messages traffic lines logged) pieces
+  pub does : Does logs traffic (report_text S.plan.program lines) pieces (lines_text S.plan.program logged) before after
 
 -- the last lines were written, or a front of them, or nothing
 abbrev pub ClosesSubmit : SubmitEnd → CoordNodeState → Option (List ℕ) → Option (List ℕ) → Type 0
@@ -248,6 +257,15 @@ ClosesSubmit SinkFault node old new = AddsFront old new (closing_text node)
 ClosesSubmit NoMemory node old new = new ≡ old
 ClosesSubmit LinkFault node old new = ⊥
 ClosesSubmit BookFault node old new = ⊥
+
+-- in one write, or a front of them, or none
+abbrev pub ClosesInPiece : SubmitEnd → CoordNodeState → Option (List (List ℕ)) → Option (List (List ℕ)) → Type 0
+ClosesInPiece Done node old new = Adds old new (closing_text node ∷ [])
+ClosesInPiece Unanswered node old new = Adds old new (closing_text node ∷ [])
+ClosesInPiece SinkFault node old new = AddsCut old new [] (closing_text node)
+ClosesInPiece NoMemory node old new = new ≡ old
+ClosesInPiece LinkFault node old new = ⊥
+ClosesInPiece BookFault node old new = ⊥
 
 -- a log was begun, if one is kept; or why not, and what the book took until then
 abbrev pub Begins : Result (Unit {0}) SubmitEnd → (log : Option (List ℕ)) → (first : List ℕ) → (old new : BookView) → Type 0

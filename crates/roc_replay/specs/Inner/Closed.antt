@@ -1,9 +1,10 @@
 -- What comes of the closing lines, and of a line that cannot be played
-use Rattle.std.specs.Prelude.{◌≡◌, ℕ, ◌-◌, nat_lt, ◌==◌, if◌then◌else◌, not, Bool, false, List, length, slice_get, Option, Some, None}
+use Rattle.std.specs.Prelude.{◌≡◌, ℕ, ◌-◌, nat_lt, ◌==◌, if◌then◌else◌, not, Bool, false, List, [], ◌∷◌, length, slice_get, Option, Some, None}
 use Rattle.roc_base.specs.declared.node.Node.TheVariants.{Server}
 use Rattle.roc_base.specs.declared.node.Shard.{Shard}
 use Rattle.roc_base.specs.Node.{is_node}
 use Rattle.roc_io.specs.Observed.{Adds, AddsFront}
+use Rattle.roc_io.specs.Sink.{AddsCut}
 use Rattle.roc_msg.specs.declared.msg.Envelope.{Envelope}
 use Rattle.roc_program.specs.Program.{Workload}
 use Rattle.roc_growth.specs.declared.event.Event.{Event}
@@ -26,6 +27,13 @@ IsClosed program w busy (Done summary) old new =
 IsClosed program w busy SinkFault old new = AddsFront old new (lines_text program (closing_lines w))
 IsClosed program w busy NoMemory old new = new ≡ old
 IsClosed program w busy (Text line what) old new = ⊥
+
+-- in one write, of which it took a front where it failed
+abbrev pub ClosesInPiece : Workload → GrownWorld → Ended → (old new : Option (List (List ℕ))) → Type 0
+ClosesInPiece program w (Done summary) old new = Adds old new (lines_text program (closing_lines w) ∷ [])
+ClosesInPiece program w SinkFault old new = AddsCut old new [] (lines_text program (closing_lines w))
+ClosesInPiece program w NoMemory old new = new ≡ old
+ClosesInPiece program w (Text line what) old new = ⊥
 
 -- a message, if any, goes to the server of a shard
 abbrev pub goes_to : Shard → Option Envelope → Bool

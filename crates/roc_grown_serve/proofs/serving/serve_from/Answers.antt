@@ -1,7 +1,9 @@
-use Rattle.std.proofs.Common.{[], ◌∷◌, inl, inr, refl, sym, subst, ◌∙◌}
+use Rattle.std.proofs.Common.{ℕ, List, [], ◌∷◌, take, inl, inr, refl, sym, subst, ◌∙◌}
 use Rattle.roc_io.specs.Observed.{Adds}
 use Rattle.roc_node.proofs.Moving.{Moves-none}
 use Rattle.roc_node_serve.specs.declared.ends.ServeEnd.TheVariants as end
+use Rattle.roc_node_serve.specs.Pieces.{silent, greeted, cut_first}
+use Rattle.roc_node_serve.proofs.Writing.{closed_behind}
 use Rattle.roc_grown_serve.specs.ServesGrowing.{unbound}
 use Rattle.roc_grown_serve.proofs.Served.{serves_unserved, serves_wanted, serves_cut, serves_over}
 use Rattle.roc_grown_serve.proofs.serving.serve_from.Goals as goal
@@ -38,3 +40,32 @@ returns-clause-serves g c = λ own at. let e = c.in-Ok-bind.ensures in
     (subst (λ b. Adds (g.L.Link.bound c.args.link.now) b (c.addr.result ∷ [])) (sym c.in-LinkFault.ensures.bound) e.bound)
     (Moves-none _ _ e.arrivals e.sent e.lost e.events) (c.deref.ensures.value ∙ c.in-Ok.ensures) c.in-Ok-write.ensures.taken
     c.run_turns.new.server_node refl c.in-LinkFault.ensures.runs
+
+-- ---- the pieces
+
+pub returns-in-Err-clause-pieces : goal.returns-in-Err-clause-pieces
+returns-in-Err-clause-pieces g c = silent end.NoMemory refl refl
+
+pub returns-in-Failed-clause-pieces : goal.returns-in-Failed-clause-pieces
+returns-in-Failed-clause-pieces g c = silent end.LinkFault refl refl
+
+pub returns-in-Failed-write-clause-pieces : goal.returns-in-Failed-write-clause-pieces
+returns-in-Failed-write-clause-pieces g c =
+    let failed = c.in-Failed-write.ensures.pieces in
+    cut_first (failed.0, subst (λ (t : List ℕ). Adds (g.S.Sink.pieces c.args.out.now) (g.S.Sink.pieces c.write.new.self) (take failed.0 t ∷ [])) (c.deref.ensures.value ∙ c.in-Ok.ensures) failed.2)
+
+pub returns-in-Over-clause-pieces : goal.returns-in-Over-clause-pieces
+returns-in-Over-clause-pieces g c =
+    closed_behind c.args.shard c.args.counts c.in-Over.stopped c.run_turns.new.server_node.counts _ _ _ c.close.result
+    (subst (λ (t : List ℕ). Adds (g.S.Sink.pieces c.args.out.now) (g.S.Sink.pieces c.write.new.self) (t ∷ [])) (c.deref.ensures.value ∙ c.in-Ok.ensures) c.in-Ok-write.ensures.pieces)
+    c.close.ensures.pieces
+
+pub returns-in-NoMemory-clause-pieces : goal.returns-in-NoMemory-clause-pieces
+returns-in-NoMemory-clause-pieces g c =
+    greeted end.NoMemory refl
+    (subst (λ (t : List ℕ). Adds (g.S.Sink.pieces c.args.out.now) (g.S.Sink.pieces c.write.new.self) (t ∷ [])) (c.deref.ensures.value ∙ c.in-Ok.ensures) c.in-Ok-write.ensures.pieces)
+
+pub returns-clause-pieces : goal.returns-clause-pieces
+returns-clause-pieces g c =
+    greeted end.LinkFault refl
+    (subst (λ (t : List ℕ). Adds (g.S.Sink.pieces c.args.out.now) (g.S.Sink.pieces c.write.new.self) (t ∷ [])) (c.deref.ensures.value ∙ c.in-Ok.ensures) c.in-Ok-write.ensures.pieces)

@@ -7,6 +7,8 @@ use Rattle.roc_io.specs.Call.{link_view}
 use Rattle.roc_io.specs.Observed.{Adds}
 use Rattle.roc_node.proofs.Moving.{Moves-none, same_view}
 use Rattle.roc_node_submit.specs.SubmitEnd.{any_address}
+use Rattle.roc_node_submit.specs.declared.ends.SubmitEnd.TheVariants as end
+use Rattle.roc_grown_submit.proofs.Writing.{unbound_pieces}
 
 pub returns-in-Failed-clause-submits : goal.returns-in-Failed-clause-submits
 returns-in-Failed-clause-submits g c =
@@ -20,3 +22,6 @@ returns-in-Ok-clause-submits g c =
     (record { old = v; new = link_view g.L.Link c.submit_growing_turns.new.link; out = record { old = g.S.Sink.taken c.args.out.now; new = g.S.Sink.taken c.submit_growing_turns.new.out } })
     c.submit_growing_turns.result)
     (same_view _ _ _ _ _ _ _ _ c.in-Ok.ensures.arrivals c.in-Ok.ensures.sent c.in-Ok.ensures.lost c.in-Ok.ensures.events) c.submit_growing_turns.ensures.submits)
+
+pub returns-in-Failed-clause-pieces : goal.returns-in-Failed-clause-pieces
+returns-in-Failed-clause-pieces g c = unbound_pieces _ _ _ _ _ end.LinkFault refl

@@ -6,6 +6,7 @@ use Rattle.roc_grown_node.specs.Setting.{grown_node_setting}
 use Rattle.roc_grown_submit.specs.declared.coord_node.CoordNode.{CoordNode}
 use Rattle.roc_grown_submit.proofs.Ending.{submit_half_ends, take_half_ends, answered_ends, turns_end}
 use Rattle.roc_grown_submit.proofs.Turning.{grown_ran_none, grown_ran_more}
+use Rattle.roc_grown_submit.proofs.Writing.{submit_half_pieces, take_half_pieces, answered_pieces, turns_pieces}
 use Rattle.roc_grown_submit.proofs.submitting.submit_growing_turns.Goals as goal
 
 pub loop-init : goal.loop-init
@@ -49,3 +50,19 @@ returns-clause-submits g c =
     let over = c.loop-test.false in
     let within = c.loop.auto.counter-end in
     turns_end (grown_node_setting c.args.plan.now c.args.tag c.args.next.now (node.Coord c.args.coord) c.args.cluster.now) _ _ _ _ _ (c.grown_programs_call_alike.ensures.names c.args.plan.now.program c.args.next.now.plan.program c.requires.grown) c.close-2.result _ _ _ _ (omega arith) c.loop.invariant.0 c.close-2.ensures.closes
+
+-- ---- the pieces
+
+pub returns-in-Err-clause-pieces : goal.returns-in-Err-clause-pieces
+returns-in-Err-clause-pieces g c = submit_half_pieces _ _ _ _ _ c.in-Err.end _ _ c.submit_half.new.coord_node _ _ c.loop.invariant.0 c.in-Err.ensures.submits
+
+pub returns-then-are_all_answered-clause-pieces : goal.returns-then-are_all_answered-clause-pieces
+returns-then-are_all_answered-clause-pieces g c =
+    answered_pieces _ _ _ _ _ c.close.result _ _ c.submit_half.new.coord_node _ _ _ c.loop.invariant.0 c.in-Ok.ensures.submits c.close.ensures.pieces
+
+pub returns-in-Err-take_half-clause-pieces : goal.returns-in-Err-take_half-clause-pieces
+returns-in-Err-take_half-clause-pieces g c =
+    take_half_pieces _ _ _ _ _ c.in-Err-take_half.end _ _ c.submit_half.new.coord_node c.take_half.new.coord_node _ _ _ c.loop.invariant.0 c.in-Ok.ensures.submits c.in-Err-take_half.ensures.takes
+
+pub returns-clause-pieces : goal.returns-clause-pieces
+returns-clause-pieces g c = turns_pieces _ _ _ _ _ c.close-2.result _ _ _ _ c.loop.invariant.0 c.close-2.ensures.pieces

@@ -2,6 +2,7 @@ use Rattle.std.proofs.Common.{Bor, List, ℕ, refl}
 use Rattle.std.specs.Prelude.{option_map}
 use Rattle.roc_node.proofs.Moving.{Moves-none}
 use Rattle.roc_node_serve.proofs.Opened.{book_of_fault, disk_of_fault, kept_served, link_of_fault, not_opened, opened_ready, sink_of_fault}
+use Rattle.roc_node_serve.proofs.Writing.{none_opened}
 use Rattle.roc_node_serve.proofs.serving.serve_kept.Goals as goal
 
 pub serve_opened-requires-clause-ready : goal.serve_opened-requires-clause-ready
@@ -35,3 +36,6 @@ returns-in-Ok-clause-serves g c = λ own at. let e = c.in-Ok.ensures in
     kept_served _ _ _ _ _ _ _ _ _ _ (option_map (λ (n : Bor (List ℕ)). n.now) c.args.log) _ _ _ c.in-Ok.server _ c.first_node-server_node.ensures.server
     c.serve_opened.ensures.calls.told e.stands e.fresh.2 e.fresh.3 e.opened e.any_moment
     (c.serve_opened.ensures.serves own at)
+
+pub returns-in-Err-clause-pieces : goal.returns-in-Err-clause-pieces
+returns-in-Err-clause-pieces g c = none_opened _ _ _ c.in-Err.fault _ c.end_of.ensures

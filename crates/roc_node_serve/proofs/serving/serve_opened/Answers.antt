@@ -2,6 +2,8 @@ use Rattle.std.proofs.Common.{◌∙◌, Bor, List, ℕ, refl}
 use Rattle.std.specs.Prelude.{option_map}
 use Rattle.roc_node.proofs.Moving.{Moves-none}
 use Rattle.roc_node.specs.Setting.{setting_of}
+use Rattle.roc_node_serve.specs.declared.ends.ServeEnd.TheVariants as end
+use Rattle.roc_node_serve.specs.Pieces.{silent}
 use Rattle.roc_node_serve.proofs.Logs.{not_begun}
 use Rattle.roc_node_serve.proofs.Opened.{calls_behind, calls_still, opens_with, serves_behind, serves_still}
 use Rattle.roc_node_serve.proofs.Served.{serves_wanting}
@@ -24,3 +26,6 @@ returns-in-Ok-clause-serves g c = λ own at.
     serves_behind _ _ _ _ _ _ c.in-Ok.ensures.untouched c.in-Ok.ensures.same _ _ _ _ _ _ _ _ _
     (opens_with c.args.setting.logs (setting_of c.args.setting) _ _ c.in-Ok.output c.deref.result.now c.in-Ok.ensures.leads c.in-Ok.ensures.same c.requires.first c.deref.ensures.value)
     (c.serve_from.ensures.serves own at c.in-Ok.ensures.leads.messages c.in-Ok.ensures.leads.lines (c.deref-in-Ok.ensures.value ∙ c.in-Ok.ensures.leads.text))
+
+pub returns-in-Err-clause-pieces : goal.returns-in-Err-clause-pieces
+returns-in-Err-clause-pieces g c = silent end.NoMemory refl refl

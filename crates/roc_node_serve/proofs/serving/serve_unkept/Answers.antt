@@ -5,6 +5,8 @@ use Rattle.roc_node.proofs.Moving.{Moves-none}
 use Rattle.roc_server.specs.Ahead.{ServingFits}
 use Rattle.roc_server.specs.State.{Serving}
 use Rattle.roc_node.specs.Setting.{setting_of}
+use Rattle.roc_node_serve.specs.declared.ends.ServeEnd.TheVariants as end
+use Rattle.roc_node_serve.specs.Pieces.{silent}
 use Rattle.roc_node_serve.proofs.Logs.{no_text}
 use Rattle.roc_node_serve.proofs.Opened.{first_is, unkept_ready, unkept_served, unkept_wanting}
 use Rattle.roc_node_serve.proofs.serving.serve_unkept.Goals as goal
@@ -29,3 +31,6 @@ returns-in-Ok-clause-serves g c = λ own at.
     (ap (λ (s : Serving). s.viewing) server ∙ c.in-Ok.ensures.views) c.first_node-server_node.ensures.first)
     (ap (λ (k : KeptServer). k.keeper) c.first_node-server_node.ensures.server ∙ c.unkept.ensures.none) c.serve_from.ensures.calls
     (c.serve_from.ensures.serves own at [] [] (no_text c.args.setting.logs c.args.setting.plan.now.program))
+
+pub returns-in-Err-clause-pieces : goal.returns-in-Err-clause-pieces
+returns-in-Err-clause-pieces g c = silent end.NoMemory refl refl

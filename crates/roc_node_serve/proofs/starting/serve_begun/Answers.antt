@@ -1,8 +1,11 @@
-use Rattle.std.proofs.Common.{[], ◌∷◌, refl, sym, subst}
+use Rattle.std.proofs.Common.{ℕ, List, [], ◌∷◌, take, refl, sym, subst}
 use Rattle.roc_io.specs.Observed.{Adds}
 use Rattle.roc_node.proofs.Moving.{Moves-none}
 use Rattle.roc_node_serve.proofs.Logs.{took_none}
+use Rattle.roc_node_serve.specs.declared.ends.ServeEnd.TheVariants as end
+use Rattle.roc_node_serve.specs.Pieces.{silent, greeted, cut_first}
 use Rattle.roc_node_serve.proofs.Served.{calls_nothing, serves_unbound, serves_unserved, serves_wanted, serves_cut, serves_filled, serves_broken, serves_cut_short, serves_over}
+use Rattle.roc_node_serve.proofs.Writing.{closed_behind}
 use Rattle.roc_node_serve.proofs.starting.serve_begun.Goals as goal
 
 pub returns-in-Failed-clause-calls : goal.returns-in-Failed-clause-calls
@@ -74,3 +77,38 @@ returns-in-BookFault-clause-serves g c = λ own at messages logged.
     (Moves-none _ _ c.in-Ok.ensures.arrivals c.in-Ok.ensures.sent c.in-Ok.ensures.lost c.in-Ok.ensures.events)
     c.requires.first c.in-Ok-write.ensures.taken
     c.run_turns.new.server_node _ _ _ refl (c.in-BookFault.ensures.runs messages logged)
+
+-- ---- the pieces
+
+pub returns-in-Failed-clause-pieces : goal.returns-in-Failed-clause-pieces
+returns-in-Failed-clause-pieces g c = silent end.LinkFault refl refl
+
+pub returns-in-Failed-write-clause-pieces : goal.returns-in-Failed-write-clause-pieces
+returns-in-Failed-write-clause-pieces g c =
+    let failed = c.in-Failed-write.ensures.pieces in
+    cut_first (failed.0, subst (λ (t : List ℕ). Adds (g.S.Sink.pieces c.args.out.now) (g.S.Sink.pieces c.write.new.self) (take failed.0 t ∷ [])) c.requires.first failed.2)
+
+pub returns-in-Over-clause-pieces : goal.returns-in-Over-clause-pieces
+returns-in-Over-clause-pieces g c =
+    closed_behind c.args.shard c.args.counts c.in-Over.stopped c.run_turns.new.server_node.counts _ _ _ c.close.result
+    (subst (λ (t : List ℕ). Adds (g.S.Sink.pieces c.args.out.now) (g.S.Sink.pieces c.write.new.self) (t ∷ [])) c.requires.first c.in-Ok-write.ensures.pieces) c.close.ensures.pieces
+
+pub returns-in-NoMemory-clause-pieces : goal.returns-in-NoMemory-clause-pieces
+returns-in-NoMemory-clause-pieces g c =
+    greeted end.NoMemory refl (subst (λ (t : List ℕ). Adds (g.S.Sink.pieces c.args.out.now) (g.S.Sink.pieces c.write.new.self) (t ∷ [])) c.requires.first c.in-Ok-write.ensures.pieces)
+
+pub returns-in-LinkFault-clause-pieces : goal.returns-in-LinkFault-clause-pieces
+returns-in-LinkFault-clause-pieces g c =
+    greeted end.LinkFault refl (subst (λ (t : List ℕ). Adds (g.S.Sink.pieces c.args.out.now) (g.S.Sink.pieces c.write.new.self) (t ∷ [])) c.requires.first c.in-Ok-write.ensures.pieces)
+
+pub returns-in-Full-clause-pieces : goal.returns-in-Full-clause-pieces
+returns-in-Full-clause-pieces g c =
+    greeted end.Full refl (subst (λ (t : List ℕ). Adds (g.S.Sink.pieces c.args.out.now) (g.S.Sink.pieces c.write.new.self) (t ∷ [])) c.requires.first c.in-Ok-write.ensures.pieces)
+
+pub returns-in-Disk-clause-pieces : goal.returns-in-Disk-clause-pieces
+returns-in-Disk-clause-pieces g c =
+    greeted end.Disk refl (subst (λ (t : List ℕ). Adds (g.S.Sink.pieces c.args.out.now) (g.S.Sink.pieces c.write.new.self) (t ∷ [])) c.requires.first c.in-Ok-write.ensures.pieces)
+
+pub returns-in-BookFault-clause-pieces : goal.returns-in-BookFault-clause-pieces
+returns-in-BookFault-clause-pieces g c =
+    greeted end.BookFault refl (subst (λ (t : List ℕ). Adds (g.S.Sink.pieces c.args.out.now) (g.S.Sink.pieces c.write.new.self) (t ∷ [])) c.requires.first c.in-Ok-write.ensures.pieces)

@@ -5,6 +5,8 @@ use Rattle.roc_io.specs.Link.{sending}
 use Rattle.roc_node.proofs.Moving.{Moves-none}
 use Rattle.roc_node.specs.Setting.{setting_of}
 use Rattle.roc_node_serve.specs.Inner.ServerTurn.{node_of}
+use Rattle.roc_node_serve.specs.declared.ends.ServeEnd.TheVariants as end
+use Rattle.roc_node_serve.specs.Pieces.{silent}
 use Rattle.roc_node_serve.proofs.Logs.{begun_ill, begun_with, kept_so, named_as, not_begun}
 use Rattle.roc_node_serve.proofs.Served.{served_logged, serves_unlogged, serves_wanting}
 use Rattle.roc_node_serve.proofs.starting.serve_from.Goals as goal
@@ -37,3 +39,12 @@ returns-clause-serves g c = λ own at messages logged is.
     (kept_so c.args.setting.logs S c.args.shard first (book_view g.B.Book c.args.book.now) (book_view g.B.Book c.begin_log.new.book) (book_view g.B.Book c.serve_begun.new.book) log named
     (begun_with log c.args.setting.logs (book_call g.B.Book c.args.book.now c.begin_log.new.book) S c.args.shard first c.args.lines.now named is c.in-Ready.ensures.begins))
     (c.serve_begun.ensures.serves own at messages logged)
+
+pub returns-in-Err-clause-pieces : goal.returns-in-Err-clause-pieces
+returns-in-Err-clause-pieces g c = silent end.NoMemory refl refl
+
+pub returns-in-NoMemory-clause-pieces : goal.returns-in-NoMemory-clause-pieces
+returns-in-NoMemory-clause-pieces g c = silent end.NoMemory refl refl
+
+pub returns-in-Failed-clause-pieces : goal.returns-in-Failed-clause-pieces
+returns-in-Failed-clause-pieces g c = silent end.BookFault refl refl

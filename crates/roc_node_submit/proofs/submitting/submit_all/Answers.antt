@@ -9,6 +9,8 @@ use Rattle.roc_node.specs.NodeEvent.{node_setting}
 use Rattle.roc_node_submit.specs.SubmitEnd.{Submits, unbound, bound, any_address}
 use Rattle.roc_node_submit.proofs.Booked.{call}
 use Rattle.roc_node_submit.proofs.Submitted.{begin_ends, name_is_given}
+use Rattle.roc_node_submit.specs.declared.ends.SubmitEnd.TheVariants as end
+use Rattle.roc_node_submit.proofs.Writing.{begin_pieces, unbound_pieces}
 use Rattle.roc_node_submit.proofs.submitting.submit_all.Goals as goal
 
 pub returns-in-Err-clause-submits : goal.returns-in-Err-clause-submits
@@ -29,3 +31,9 @@ returns-in-Ok-bind-clause-submits g c =
     (record { old = v; new = link_view g.L.Link c.submit_turns.new.link; out = record { old = g.S.Sink.taken c.args.out.now; new = g.S.Sink.taken c.submit_turns.new.out } })
     (call begun (book_view g.B.Book c.submit_turns.new.book)) c.submit_turns.result)
     (same_view _ _ _ _ _ _ _ _ c.in-Ok-bind.ensures.arrivals c.in-Ok-bind.ensures.sent c.in-Ok-bind.ensures.lost c.in-Ok-bind.ensures.events) submits)
+
+pub returns-in-Err-clause-pieces : goal.returns-in-Err-clause-pieces
+returns-in-Err-clause-pieces g c = begin_pieces c.in-Err.end _ _ _ _ _ _ _ _ c.in-Err.ensures.begins
+
+pub returns-in-Failed-clause-pieces : goal.returns-in-Failed-clause-pieces
+returns-in-Failed-clause-pieces g c = unbound_pieces _ _ _ _ end.LinkFault refl

@@ -3,6 +3,7 @@ use Rattle.roc_coord.specs.Fits.{CoordFits}
 use Rattle.roc_node_submit.specs.declared.coord_node.CoordNode.{CoordNode}
 use Rattle.roc_node_submit.proofs.Coords.{coord_ran_none, coord_ran_more}
 use Rattle.roc_node_submit.proofs.Submitted.{submit_half_ends, take_half_ends, submit_over}
+use Rattle.roc_node_submit.proofs.Writing.{submit_half_pieces, take_half_pieces, over_pieces}
 use Rattle.roc_node_submit.proofs.submitting.submit_turns.Goals as goal
 
 pub loop-init : goal.loop-init
@@ -49,3 +50,19 @@ returns-clause-submits g c log begun begins =
     let over = c.loop-test.false in
     let within = c.loop.auto.counter-end in
     submit_over _ _ _ _ _ log begun _ begins c.close-2.result _ _ _ _ (omega arith) c.loop.invariant.0 (inr (omega arith)) c.close-2.ensures.closes
+
+-- ---- the pieces
+
+pub returns-then-is_answered-clause-pieces : goal.returns-then-is_answered-clause-pieces
+returns-then-is_answered-clause-pieces g c = over_pieces _ _ _ _ _ c.close.result _ _ _ _ c.loop.invariant.0 c.close.ensures.pieces
+
+pub returns-in-Err-clause-pieces : goal.returns-in-Err-clause-pieces
+returns-in-Err-clause-pieces g c = submit_half_pieces _ _ _ _ _ c.in-Err.end _ _ c.submit_half.new.coord_node _ _ c.loop.invariant.0 c.in-Err.ensures.submits
+
+pub returns-in-Err-take_half-clause-pieces : goal.returns-in-Err-take_half-clause-pieces
+returns-in-Err-take_half-clause-pieces g c =
+    take_half_pieces _ _ _ _ _ c.in-Err-take_half.end _ _ c.submit_half.new.coord_node c.take_half.new.coord_node _ _ _ c.loop.invariant.0 c.if-is_answered.ensures c.in-Ok.ensures.submits
+    c.in-Err-take_half.ensures.takes
+
+pub returns-clause-pieces : goal.returns-clause-pieces
+returns-clause-pieces g c = over_pieces _ _ _ _ _ c.close-2.result _ _ _ _ c.loop.invariant.0 c.close-2.ensures.pieces
