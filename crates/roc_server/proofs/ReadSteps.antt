@@ -1,5 +1,7 @@
 -- What comes of a step for reads
-use Rattle.std.proofs.Common.{◌≡◌, Bool, true, false, not, List, [], Option, None, Vec, map, filter, if◌then◌else◌, refl, sym, ap, subst, ◌∙◌, append-nil}
+use Rattle.std.proofs.Common.{◌≡◌, ◌<◌, ◌+◌, ◌∷◌, ◌++◌, ℕ, Bool, true, false, not, cond, List, [], length}
+use Rattle.std.proofs.Common.{take, get_or, Option, None, Vec, map, filter, if◌then◌else◌, refl, sym, ap, subst, ◌∙◌, append-nil}
+use Rattle.std.proofs.lemmas.List.Elements.{filter_more}
 use Rattle.std.specs.declared.alloc.Global.{Global}
 use Rattle.roc_base.specs.declared.id.TxnId.{TxnId}
 use Rattle.roc_base.specs.declared.node.Shard.{Shard}
@@ -37,6 +39,23 @@ after_shard shard k (Group e) = refl
 after_shard shard k (Lists l) = refl
 after_shard shard k (Marks h) = refl
 after_shard shard k (Settled s) = refl
+
+-- of reads none is free, and one more is not
+pub one_more_held : (free : KeptRead → Bool) (reads : List KeptRead) (i : ℕ) (q : KeptRead) → i < length reads → q ≡ get_or reads i q
+    → filter free (take i reads) ≡ [] → free q ≡ false → filter free (take (i + 1) reads) ≡ []
+one_more_held free reads i q within is none held =
+    let here : free (get_or reads i q) ≡ false = ap free (sym is) ∙ held in
+    filter_more free reads i q within ∙ (λ j. none j ++ cond (here j) (get_or reads i q ∷ []) [])
+
+-- where none is free, all are those that are not
+none_free : (free : KeptRead → Bool) (reads : List KeptRead) → filter free reads ≡ [] → filter (λ q. not (free q)) reads ≡ reads
+none_free free [] none = refl
+none_free free (q ∷ qs) none = go (free q) none (none_free free qs)
+  where
+    go : (b : Bool) → cond b (q ∷ filter free qs) (filter free qs) ≡ [] → (filter free qs ≡ [] → filter (λ x. not (free x)) qs ≡ qs)
+        → cond (not b) (q ∷ filter (λ x. not (free x)) qs) (filter (λ x. not (free x)) qs) ≡ q ∷ qs
+    go true h ih = absurd (cc)
+    go false h ih = ap (λ rest. q ∷ rest) (ih h)
 
 module _ (plan : Plan) (shard : Shard) (k : ServerData) (change : Change) (v : Viewing) (msg : Msg) (answer : Handled) where
   abbrev s : ServerState
@@ -85,3 +104,11 @@ module _ (plan : Plan) (shard : Shard) (k : ServerData) (change : Change) (v : V
             let answered : HasSent old new whole.sends =
             subst (HasSent old new) (λ i. map (λ q. readok_same q i) (in_turn (filter (λ q. free q i) (sym all_is i)))) sent in
             subst P (sym taken) (staying, answered)
+
+  -- where none is free, all stay as they are
+  pub plans_none : IsPlanned k change → (out : Collected) → reads_with msg answer v.reads ≡ v.reads → filter (is_free_then plan k change) v.reads ≡ [] → is_taken answer ≡ true
+      → PlansReads plan shard k change v msg answer out out None
+  plans_none p out all none taken =
+      plans_reads p out out None v.reads all (sym (none_free (is_free_then plan k change) v.reads none))
+      (subst (λ qs. HasSent out out (map (readok_over plan shard k.rows.store (with_accesses v.versions out.ran)) (in_turn qs))) (sym none) (sym (append-nil out.messages), refl, refl))
+      taken

@@ -1,5 +1,5 @@
 //! Which reads are free.
-ghost use Rattle.std.specs.Prelude.{◌≡◌, ◌&&◌, ◌||◌, not, [], filter, IfOk};
+ghost use Rattle.std.specs.Prelude.{◌≡◌, ◌&&◌, ◌||◌, not, [], filter, IsTrue, IfOk};
 ghost use Rattle.std.specs.List.{list_any};
 ghost use Rattle.std.specs.Option.{option_to_list};
 ghost use Rattle.roc_base.specs.TxnId.{is_txn};
@@ -59,6 +59,26 @@ pub(crate) fn part(
         }
     }
     Ok(parted)
+}
+
+// Whether none of these reads is free behind a change.
+pub(crate) fn none_is_free(
+    alloc: Global,
+    plan: &Plan,
+    kept: &ServerData,
+    change: &Change,
+    reads: &[KeptRead],
+) -> Result<bool, NoMemory>
+    requires fits { AreReadsOf plan.now reads.now }
+    requires planned { IsPlanned kept.now change.now }
+    ensures { IfOk result (λ none. IsTrue none → filter (is_free_then plan.now kept.now change.now) reads.now ≡ []) }
+{
+    for read in reads {
+        if is_free(alloc, plan, kept, change, read)? {
+            return Ok(false);
+        }
+    }
+    Ok(true)
 }
 
 // Whether no group that is undecided behind a change writes a cell of a read.

@@ -9,7 +9,7 @@ ghost use Rattle.roc_server.specs.Inner.Planned.{IsPlanned};
 ghost use Rattle.roc_step.specs.Reads.{in_turn, is_same_read, reads_with, with_accesses, with_read};
 ghost use Rattle.roc_step.specs.declared.kept_read.KeptRead.{KeptRead as Waiting};
 
-use crate::free_reads::{Parted, part};
+use crate::free_reads::{Parted, none_is_free, part};
 use crate::planned::{Change, Planned};
 use crate::readoks::send_readoks;
 use crate::server_data::ServerData;
@@ -48,7 +48,9 @@ pub(crate) fn prepare_reads(
         return Ok(None);
     }
     let read = read_of(msg, planned.answer)?;
-    if has_none(&read, views.reads.as_slice()) {
+    let change = &planned.change;
+    let unchanged = all_stay(alloc, plan, kept, change, &read, views.reads.as_slice())?;
+    if unchanged {
         return Ok(None);
     }
     let reads = with_read(alloc, views.reads.as_slice(), read)?;
@@ -58,20 +60,29 @@ pub(crate) fn prepare_reads(
         shard,
         kept,
         &views.versions,
-        &planned.change,
+        change,
         reads,
         sends,
     )?;
     Ok(Some(stays))
 }
 
-// Whether there is no such read, and none is kept.
-fn has_none(read: &Option<KeptRead>, reads: &[KeptRead]) -> bool
-    ensures { IsTrue result → (with_some_read read.now reads.now ≡ []) × (reads.now ≡ []) }
+// Whether no read comes, and none of those that are kept is free behind a change: then they all stay as they are, without a copy.
+fn all_stay(
+    alloc: Global,
+    plan: &Plan,
+    kept: &ServerData,
+    change: &Change,
+    read: &Option<KeptRead>,
+    reads: &[KeptRead],
+) -> Result<bool, NoMemory>
+    requires fits { AreReadsOf plan.now reads.now }
+    requires planned { IsPlanned kept.now change.now }
+    ensures { IfOk result (λ stay. IsTrue stay → (with_some_read read.now reads.now ≡ reads.now) × (filter (is_free_then plan.now kept.now change.now) reads.now ≡ [])) }
 {
     match read {
-        Some(_) => false,
-        None => reads.is_empty(),
+        Some(_) => Ok(false),
+        None => none_is_free(alloc, plan, kept, change, reads),
     }
 }
 

@@ -1,4 +1,4 @@
-use Rattle.std.proofs.Common.{◌∙◌, ◌≤◌, [], List, length, not, map, filter, None, Some, refl, sym, ap, subst, append-nil}
+use Rattle.std.proofs.Common.{◌∙◌, ◌≤◌, List, length, not, map, filter, Some, sym, ap, subst}
 use Rattle.roc_msg.specs.declared.outbox.Ran.{Ran}
 use Rattle.roc_msg.specs.Outbox.{HasSent}
 use Rattle.roc_step.specs.Fits.{AreReadsOf, IsReadOf}
@@ -6,19 +6,26 @@ use Rattle.roc_server.specs.Inner.Answering.{is_free_then, readok_over}
 use Rattle.roc_server.specs.Inner.Held.{viewing_of}
 use Rattle.roc_step.specs.Reads.{in_turn, reads_with, with_accesses}
 use Rattle.roc_server.proofs.ReadsOfPlan.{some_hold, with_fits}
-use Rattle.roc_server.proofs.ReadSteps.{none_ignored, plans_reads}
+use Rattle.roc_server.proofs.ReadSteps.{none_ignored, plans_none, plans_reads}
 use Rattle.roc_server.proofs.read_answers.prepare_reads.Goals as goal
 
 pub returns-then-not-is_taken-clause-step : goal.returns-then-not-is_taken-clause-step
 returns-then-not-is_taken-clause-step c =
     none_ignored c.args.plan.now c.args.shard c.args.kept.now c.args.planned.now.change (viewing_of c.args.views.now) c.args.msg.now c.args.planned.now.answer c.args.sends.now (sym c.is_taken.ensures ∙ c.if-not-is_taken.true)
 
-pub returns-then-has_none-clause-step : goal.returns-then-has_none-clause-step
-returns-then-has_none-clause-step c =
-    let none = c.has_none.ensures c.if-has_none.true in
+pub returns-then-unchanged-clause-step : goal.returns-then-unchanged-clause-step
+returns-then-unchanged-clause-step c =
+    let stay = c.in_ok-unchanged.ensures c.if-unchanged.true in
     let same = c.as_slice.ensures.value in
-    plans_reads c.args.plan.now c.args.shard c.args.kept.now c.args.planned.now.change (viewing_of c.args.views.now) c.args.msg.now c.args.planned.now.answer c.requires.planned c.args.sends.now c.args.sends.now None []
-    (ap (reads_with c.args.msg.now c.args.planned.now.answer) (sym same) ∙ c.in_ok-read.ensures c.as_slice.result.now ∙ none.0) (sym same ∙ none.1) (sym (append-nil c.args.sends.now.messages), refl, refl) (sym c.is_taken.ensures ∙ c.if-not-is_taken.false)
+    let plan = c.args.plan.now in
+    let k = c.args.kept.now in
+    let change = c.args.planned.now.change in
+    let msg = c.args.msg.now in
+    let answer = c.args.planned.now.answer in
+    plans_none plan c.args.shard k change (viewing_of c.args.views.now) msg answer c.requires.planned c.args.sends.now
+    (ap (reads_with msg answer) (sym same) ∙ c.in_ok-read.ensures c.as_slice.result.now ∙ stay.0 ∙ same)
+    (ap (filter (is_free_then plan k change)) (sym same) ∙ stay.1)
+    (sym c.is_taken.ensures ∙ c.if-not-is_taken.false)
 
 pub answer_free-requires-clause-fits : goal.answer_free-requires-clause-fits
 answer_free-requires-clause-fits c =
