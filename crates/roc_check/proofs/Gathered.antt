@@ -1,15 +1,15 @@
 -- The pieces that use each column, gathered piece by piece, and what they say of conflicts
-use Rattle.std.proofs.Common.{◌≡◌, ◌≢◌, ℕ, zero, suc, ◌+◌, ◌*◌, ◌<◌, ◌≤◌, Bool, true, false, cond, not, ◌&&◌, ◌||◌, ◌==◌, List, [], ◌∷◌, ◌++◌, length, get_or, set, replicate, refl, sym, ap, subst, ◌∙◌, inl, inr, arith}
-use Rattle.std.proofs.lemmas.Bool.{cases_eq, cases_lt, eqb-true, and_parts, false≢true}
+use Rattle.std.proofs.Common.{◌≡◌, ◌≢◌, ℕ, ◌+◌, ◌*◌, ◌<◌, ◌≤◌, Bool, true, false, cond, not, ◌&&◌, ◌||◌, ◌==◌, List, [], ◌∷◌, ◌++◌, length, get_or, set, replicate, refl, sym, ap, ◌∙◌, inl, inr, arith}
+use Rattle.std.proofs.lemmas.Bool.{cases_lt, eqb-true, and_parts, false≢true}
 use Rattle.std.proofs.lemmas.Bool.Decides.{nat_tests}
-use Rattle.std.proofs.lemmas.List.{length-set, get_or-set_same, get_or-set_other, get_or-replicate, get_or_past}
+use Rattle.std.proofs.lemmas.List.{get_or-set_same, get_or-set_other, get_or-replicate, get_or_past}
 use Rattle.std.proofs.lemmas.Nat.Bits.{bit_at-zero}
 use Rattle.std.specs.Int.{bit_at}
 use Rattle.roc_sequence.proofs.Holds.{all_at, all_append}
 use Rattle.std.proofs.lemmas.List.Folds.{list_any-append}
 use Rattle.std.specs.Prelude.{nat_lt}
 use Rattle.std.specs.List.{AllByRecursion, list_any}
-use Rattle.roc_program.specs.Program.{Access, Expression, Statement, Get, Set, Out, Table, Piece, Workload}
+use Rattle.roc_program.specs.Program.{Access, Expression, Statement, Get, Set, Out, Piece, Workload}
 use Rattle.roc_program.specs.Conflict.{collide, are_in_conflict, exposed}
 use Rattle.roc_program.specs.LookUps.{is_view_in, no_piece}
 use Rattle.roc_program.specs.Pieces.{pieces_in, piece_of}
@@ -20,6 +20,7 @@ use Rattle.roc_conflict.proofs.Declared.{InTables, in_exposed}
 use Rattle.roc_conflict.proofs.Present.{present_or_none}
 use Rattle.roc_check.specs.Inner.PieceSets.{holds, is_piece}
 use Rattle.roc_check.specs.Inner.Users.{is_at, counts, is_user, meets_by, Marks, Adds, AreUsers}
+use Rattle.roc_conflict.proofs.Members.{is_piece-true}
 
 -- ---- one piece more of one column
 
@@ -106,13 +107,6 @@ marks_one b id old new s a long h exact = record {
 }
 
 -- ---- one piece, and more
-
-pub is_piece-true : (a b : PieceId) → is_piece a b ≡ true → a ≡ b
-is_piece-true a b h =
-    let p = and_parts (a.proc == b.proc) (a.piece == b.piece) h in
-    let proc = eqb-true a.proc b.proc p.0 in
-    let piece = eqb-true a.piece b.piece p.1 in
-    λ i. record { proc = proc i; piece = piece i }
 
 pub piece_added : (program : Workload) (b : Bool) (id : PieceId) (old new : List (List ℕ)) → Marks b id old new (exposed program id) → Adds program b old new (λ other. is_piece other id)
 piece_added program b id old new h = record {

@@ -14,7 +14,6 @@ use Rattle.roc_audit.proofs.Splits.{not_empty}
 use Rattle.roc_coord.specs.declared.handled.SubmitFault.TheVariants as core_fault
 use Rattle.roc_law_protocol.specs.declared.event.Kept.{Kept}
 use Rattle.roc_law_protocol.proofs.FirstTaken.{at_end}
-use Rattle.roc_law_world.proofs.ViewsStay.{get-set_here, get-set_other}
 use Rattle.roc_sequence.proofs.Members.{same_there}
 use Rattle.roc_epoch.specs.declared.file.File.{File}
 use Rattle.roc_epoch.specs.declared.next.Next.{Next}
@@ -30,6 +29,7 @@ use Rattle.roc_growth.specs.Happens.{Outcome, Submits, IsReceived, StopsIn, at_r
 use Rattle.roc_growth.specs.Run.{Stepped, Transition, IsGrownRun, at_first, steps_on}
 use Rattle.roc_growth.specs.Told.{HasSwitched, AreTold}
 use Rattle.roc_growth.proofs.Going.{GoesOn, AreOn, same_on, on_and_on, set_on, submission_goes_on, message_goes_on, drain_goes_on}
+use Rattle.roc_law_protocol.proofs.Changed.{get-set_here, get-set_other}
 
 -- ---- what stays
 

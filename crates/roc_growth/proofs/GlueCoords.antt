@@ -14,7 +14,6 @@ use Rattle.roc_law_protocol.proofs.Changed.{get-set_here, get-set_other, get-set
 use Rattle.roc_law_world.specs.World.{World, first_beginning, first_look}
 use Rattle.roc_law_world.specs.Happens as happen
 use Rattle.roc_law_world.specs.Run as views
-use Rattle.roc_law_world.proofs.Besides.{set_there}
 use Rattle.roc_epoch.specs.declared.file.File.{File}
 use Rattle.roc_epoch.specs.declared.file.File.TheVariants.{First, Second}
 use Rattle.roc_epoch.specs.declared.next.Next.{Next}
@@ -35,6 +34,7 @@ use Rattle.roc_growth.proofs.Placed.{aside_step, one_along_more, along_more}
 use Rattle.roc_growth.proofs.OwnServers.{bare}
 use Rattle.roc_growth.proofs.OwnCoords.{coord_node, IsOwnCoord}
 use Rattle.roc_growth.proofs.Phases.{StandsInBoth, IsFresh, IsLater, fresh, later, IsGlued, sent_own, sent_other, sealed_right, filed_more, first_not_second, second_not_first, first_some, second_some}
+use Rattle.roc_law_protocol.proofs.Stops.{set_there}
 
 -- looks of a world that begins behind so many
 later_look : (n k : ℕ) (ids : List TxnId) → map (later_by n) (first_look k ids) ≡ first_look (n + k) ids

@@ -17,7 +17,6 @@ use Rattle.roc_coord.specs.Step.{after_message}
 use Rattle.roc_coord.specs.Submit.{Submission, accepted, accepted_view, new_transaction, next_id, refusal_of, refused_or_accepted, after_submit}
 use Rattle.roc_readonly.specs.Round.{first_round}
 use Rattle.roc_law_protocol.proofs.Submissions.{keeps_number}
-use Rattle.roc_law_world.proofs.ViewsStay.{get-set_here, get-set_other}
 use Rattle.roc_sequence.proofs.Members.{same_there}
 use Rattle.roc_epoch.specs.declared.file.File.{File}
 use Rattle.roc_epoch.specs.declared.next.Next.{Next}
@@ -27,6 +26,7 @@ use Rattle.roc_grown.specs.declared.handled.GrownFault.TheVariants as fault
 use Rattle.roc_grown.specs.Coord as coord
 use Rattle.roc_grown.specs.Coord.{GrownCoordState, GrownSubmission, after_grown_submit, after_drain, after_grown_message, after_switched, after_filed, was_told}
 use Rattle.roc_growth.specs.Told.{IsTelling}
+use Rattle.roc_law_protocol.proofs.Changed.{get-set_here, get-set_other}
 
 -- ---- one goes on to be the other
 

@@ -7,7 +7,6 @@ use Rattle.roc_sequence.specs.Lists.{Has}
 use Rattle.roc_sequence.proofs.Members.{has_append, same_there}
 use Rattle.roc_base.specs.declared.id.TxnId.{TxnId}
 use Rattle.roc_plan.specs.Groups.{Plan}
-use Rattle.roc_plan.specs.Accepted.{IsAccepted}
 use Rattle.roc_coord.specs.State.{CoordState}
 use Rattle.roc_coord.specs.Renewed.{renewed_coord}
 use Rattle.roc_audit.specs.declared.entry.Entry.TheVariants.{Submitted}
@@ -29,10 +28,6 @@ use Rattle.roc_growth.specs.Run.{Stepped}
 use Rattle.roc_growth.specs.Epochs.{AreEpochs}
 
 -- ---- the last file
-
-pub last_accepted : (plan : Plan) (next : Option Next) → IsAccepted plan → IsNextOf plan next → IsAccepted (last_plan plan next)
-last_accepted plan None accepted of = accepted
-last_accepted plan (Some next) accepted of = of.0
 
 -- a program is grown from itself too
 pub last_grows : (plan : Plan) (next : Option Next) → IsNextOf plan next → IsGrownFrom plan.program (last_plan plan next).program

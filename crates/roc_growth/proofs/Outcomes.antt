@@ -3,7 +3,7 @@ use Rattle.std.proofs.Common.{◌≡◌, ◌≢◌, ◌∙◌, ◌⊎◌, ℕ, �
 use Rattle.std.proofs.lemmas.Bool.{false≢true, eq-eqb}
 use Rattle.std.proofs.lemmas.Bool.Decides.{nat_tests}
 use Rattle.std.proofs.lemmas.List.{map-append, get_or_append_left}
-use Rattle.std.proofs.lemmas.Option.{slice_get_cases, slice_get_within}
+use Rattle.std.proofs.lemmas.Option.{slice_get_within}
 use Rattle.std.specs.Prelude.{slice_get, slice_index_or, if◌then◌else◌}
 use Rattle.roc_sequence.proofs.Holds.{all_has}
 use Rattle.roc_sequence.proofs.Members.{has_at}
@@ -44,10 +44,7 @@ use Rattle.roc_growth.specs.Fits.{FitsGrown}
 use Rattle.roc_growth.specs.Happens.{Outcome, undecided, IsCallOf, IsSubmissionOf, served, coordinated, IsReceived, Happens, cut_short, StopsIn, at_rest, unrecorded, recorded, started_again}
 use Rattle.roc_growth.specs.Run.{Stepped, AreCoordsOf, IsGrownRun, at_first, steps_on, IsEventOf, MayHappen, IsSentIn}
 use Rattle.roc_growth.proofs.FitGrown.{kept, run_fits}
-
--- what stands at a place of a list
-there : {A : Type 0} (xs : List A) (n : ℕ) → n < length xs → (a : A) × (slice_get xs n ≡ Some a)
-there xs n l = elim (slice_get_cases xs n).1 [ inl c ↦ (c.0, c.2) | inr c ↦ (let past = c.0 in absurd (omega (arith, past, l))) ]
+use Rattle.roc_law_world.proofs.Outcomes.{there}
 
 -- ---- calls
 

@@ -34,7 +34,6 @@ use Rattle.roc_law_world.specs.World as views
 use Rattle.roc_law_world.specs.World.{World, reads_for, first_look, looks_in}
 use Rattle.roc_law_world.specs.Happens as happen
 use Rattle.roc_law_world.specs.Run.{Transition}
-use Rattle.roc_law_world.proofs.Besides.{set_there}
 use Rattle.roc_epoch.specs.declared.file.File.{File}
 use Rattle.roc_epoch.specs.declared.next.Next.{Next}
 use Rattle.roc_epoch.specs.Files.{is_between, own_file, own_plan}
@@ -54,6 +53,7 @@ use Rattle.roc_growth.specs.Told.{HasTold, HasSwitched, IsToldRight, IsTelling, 
 use Rattle.roc_growth.proofs.Telling.{changed_coord}
 use Rattle.roc_growth.proofs.Placed.{aside_step, aside_along}
 use Rattle.roc_growth.proofs.OwnServers.{bare, AreSent, are_sent, none_sent}
+use Rattle.roc_law_protocol.proofs.Stops.{set_there}
 
 abbrev pub coord_node : ℕ → Node
 coord_node n = Coord n

@@ -25,7 +25,6 @@ use Rattle.roc_law_world.specs.World as views
 use Rattle.roc_law_world.specs.World.{World, reads_for, first_look}
 use Rattle.roc_law_world.specs.Happens as happen
 use Rattle.roc_law_world.specs.Run.{Transition}
-use Rattle.roc_law_world.proofs.Besides.{set_there}
 use Rattle.roc_epoch.specs.declared.file.File.{File}
 use Rattle.roc_epoch.specs.declared.next.Next.{Next}
 use Rattle.roc_epoch.specs.Files.{is_file, own_file, own_plan}
@@ -48,6 +47,7 @@ use Rattle.roc_growth.proofs.Telling.{changed_coord}
 use Rattle.roc_growth.proofs.Placed.{placed, aside_step, aside_along}
 use Rattle.roc_growth.proofs.OwnServers.{bare, are_sent, none_sent}
 use Rattle.roc_growth.proofs.OwnCoords.{coord_node, Behind, quiet, tells, behind_drain, behind_answer, drained_between, drained_right, no_reads_for, IsOwnCoord, own_aside, own_nothing, r_rests, d_still, d_at, d_core, d_telling, d_tells, d_sends, d_right}
+use Rattle.roc_law_protocol.proofs.Stops.{set_there}
 
 module _ (plan : Plan) (next : Option Next) (p : Plan) (f : File) (u : World)
     (no_between : (e : Option TheirEvent) (o : happen.Outcome) → Transition p u e o → (from : Node) (outs : List Outgoing) → o.world.sent ≡ u.sent ++ map (sent_by from) outs → AreNoneBetween outs)

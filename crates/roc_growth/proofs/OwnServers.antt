@@ -24,14 +24,13 @@ use Rattle.roc_law_world.specs.World as views
 use Rattle.roc_law_world.specs.World.{World}
 use Rattle.roc_law_world.specs.Happens as happen
 use Rattle.roc_law_world.specs.Run.{Transition}
-use Rattle.roc_law_world.proofs.Besides.{set_there}
 use Rattle.roc_epoch.specs.declared.file.File.{File}
 use Rattle.roc_epoch.specs.declared.file.File.TheVariants.{Neither}
 use Rattle.roc_epoch.specs.declared.next.Next.{Next}
 use Rattle.roc_epoch.specs.Files.{is_file, own_file, own_plan}
 use Rattle.roc_two_files.specs.Sealed.{Sealed, is_of, of_file, sealed_by, place_in_file}
 use Rattle.roc_epoch.proofs.Files.{same_file}
-use Rattle.roc_two_files.proofs.Networks.{AreNoneBetween, AreBetween, own_sent, other_sent}
+use Rattle.roc_two_files.proofs.Networks.{AreNoneBetween, AreBetween, own_sent, other_sent, of_append}
 use Rattle.roc_grown.specs.Server.{GrownServerState, GrownStep, of_core, taken_at}
 use Rattle.roc_grown.specs.Coord.{GrownCoordState}
 use Rattle.roc_growth.specs.declared.event.Event.{Event}
@@ -42,7 +41,8 @@ use Rattle.roc_growth.specs.Epochs.{IsAlong}
 use Rattle.roc_growth.specs.Told.{HasTold, IsToldRight}
 use Rattle.roc_growth.proofs.PlainRuns.{seen_at_server}
 use Rattle.roc_growth.proofs.Telling.{changed_server, plain_right}
-use Rattle.roc_growth.proofs.Placed.{of_more, placed, aside_step}
+use Rattle.roc_growth.proofs.Placed.{placed, aside_step}
+use Rattle.roc_law_protocol.proofs.Stops.{set_there}
 
 -- which messages were never delivered is left out: no more is said of it than what comes
 abbrev pub bare : GrownWorld → GrownWorld
@@ -74,7 +74,7 @@ module _ (servers : List GrownServerState) (coords : List GrownCoordState) (swit
       }
     where
       parts : (h : File) → of_file h (map (sealed_by switched from) (xs ++ ys)) ≡ of_file h (map (sealed_by switched from) xs) ++ of_file h (map (sealed_by switched from) ys)
-      parts h = ap (of_file h) (map-append (sealed_by switched from) xs ys) ∙ of_more h (map (sealed_by switched from) xs) (map (sealed_by switched from) ys)
+      parts h = ap (of_file h) (map-append (sealed_by switched from) xs ys) ∙ of_append h (map (sealed_by switched from) xs) (map (sealed_by switched from) ys)
 
   pub none_sent : AreSent servers coords switched from [] []
   none_sent = record { own = refl; other = λ h n k. refl; right = λ out h. absurd h }

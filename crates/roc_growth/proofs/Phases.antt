@@ -28,14 +28,13 @@ use Rattle.roc_epoch.specs.Files.{is_between, own_file, own_plan, last_plan, IsN
 use Rattle.roc_two_files.specs.Left.{AreDrained, left_behind}
 use Rattle.roc_two_files.specs.Orders.{later_by}
 use Rattle.roc_two_files.specs.Sealed.{Sealed, of_file, sealed_by}
-use Rattle.roc_two_files.proofs.Networks.{AreNoneBetween}
+use Rattle.roc_two_files.proofs.Networks.{AreNoneBetween, of_append}
 use Rattle.roc_grown.specs.Server.{GrownServerState}
 use Rattle.roc_grown.specs.Coord.{GrownCoordState, have_all_switched}
 use Rattle.roc_growth.specs.World.{GrownWorld}
 use Rattle.roc_growth.specs.Run.{Stepped}
 use Rattle.roc_growth.specs.Told.{AreTold, IsToldRight}
 use Rattle.roc_growth.specs.Epochs.{AreAlong}
-use Rattle.roc_growth.proofs.Placed.{of_more}
 use Rattle.roc_growth.proofs.OwnServers.{AreSent}
 
 -- ---- plans
@@ -157,13 +156,13 @@ module _ (plan : Plan) (next : Option Next) (count : ℕ) where
 pub sent_own : (servers : List GrownServerState) (coords : List GrownCoordState) (switched : Bool) (from : Node) (all outs : List Outgoing) → AreSent servers coords switched from all outs
     → (f : File) → own_file switched ≡ f → (sent : List Sealed) → of_file f (sent ++ map (sealed_by switched from) all) ≡ of_file f sent ++ map (sent_by from) outs
 sent_own servers coords switched from all outs o f e sent =
-    of_more f sent (map (sealed_by switched from) all)
+    of_append f sent (map (sealed_by switched from) all)
     ∙ ap (λ l. of_file f sent ++ l) (subst (λ f. of_file f (map (sealed_by switched from) all) ≡ map (sent_by from) outs) e o.own)
 
 pub sent_other : (servers : List GrownServerState) (coords : List GrownCoordState) (switched : Bool) (from : Node) (all outs : List Outgoing) → AreSent servers coords switched from all outs
     → (f : File) → f ≢ own_file switched → f ≢ Neither → (sent : List Sealed) → of_file f (sent ++ map (sealed_by switched from) all) ≡ of_file f sent
 sent_other servers coords switched from all outs o f n k sent =
-    of_more f sent (map (sealed_by switched from) all) ∙ (ap (λ l. of_file f sent ++ l) (o.other f n k) ∙ append-nil (of_file f sent))
+    of_append f sent (map (sealed_by switched from) all) ∙ (ap (λ l. of_file f sent ++ l) (o.other f n k) ∙ append-nil (of_file f sent))
 
 -- and is right
 pub sealed_right : (servers : List GrownServerState) (coords : List GrownCoordState) (switched : Bool) (from : Node) (all outs : List Outgoing) → AreSent servers coords switched from all outs

@@ -14,7 +14,6 @@ use Rattle.roc_law_world.specs.Happens as views_happen
 use Rattle.roc_law_world.specs.Run as views
 use Rattle.roc_law_world.specs.World.{World, Beginning}
 use Rattle.roc_law_world.proofs.Ranks.{rank_there, rank_append}
-use Rattle.roc_law_world.proofs.Sent.{filter_append}
 use Rattle.roc_epoch.specs.declared.file.File.{File}
 use Rattle.roc_two_files.specs.Sealed.{Sealed, is_of, of_file, place_in_file}
 use Rattle.roc_growth.specs.declared.event.Event.TheVariants.{Deliver}
@@ -23,9 +22,6 @@ use Rattle.roc_growth.specs.Run.{Stepped}
 use Rattle.roc_growth.specs.Epochs.{IsAlong, AreAlong, none_along, one_more_along}
 
 -- ---- the messages of a file
-
-pub of_more : (f : File) (xs ys : List Sealed) → of_file f (xs ++ ys) ≡ of_file f xs ++ of_file f ys
-of_more f xs ys = ap (map (λ (m : Sealed). m.message)) (filter_append (is_of f) xs ys) ∙ map-append (λ (m : Sealed). m.message) (filter (is_of f) xs) (filter (is_of f) ys)
 
 -- a message of a file stands in its world
 pub placed : (f : File) (sent : List Sealed) (u : World) → u.sent ≡ of_file f sent → (k : ℕ) (m : Sealed) → slice_get sent k ≡ Some m → is_of f m ≡ true

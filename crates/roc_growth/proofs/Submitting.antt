@@ -19,7 +19,6 @@ use Rattle.roc_audit.specs.History.{WasSubmitted}
 use Rattle.roc_law_protocol.specs.declared.event.Kept.{Kept}
 use Rattle.roc_law_world.specs.World.{first_beginning}
 use Rattle.roc_law_world.proofs.Numbered.{numbered}
-use Rattle.roc_law_world.proofs.ViewsStay.{get-set_here}
 use Rattle.roc_epoch.specs.declared.next.Next.{Next}
 use Rattle.roc_epoch.specs.Files.{last_plan, own_plan}
 use Rattle.roc_two_files.specs.Left.{left_behind}
@@ -42,6 +41,7 @@ use Rattle.roc_growth.specs.Witness.{IsSubmissionAt}
 use Rattle.roc_growth.proofs.Cuts.{IsCut, cut}
 use Rattle.roc_growth.proofs.Going.{GoesOn}
 use Rattle.roc_growth.proofs.Halves.{next_left, test_true, test_false}
+use Rattle.roc_law_protocol.proofs.Changed.{get-set_here}
 
 -- ---- what is accepted
 

@@ -1,15 +1,12 @@
 -- All pairs of goes-before among ids on cycles, and the least cycle
-use Rattle.std.proofs.Common.{◌≡◌, ◌≢◌, ℤ, Bool, true, false, cond, if◌then◌else◌, List, [], ◌∷◌, ◌++◌, map, length, ◌≤◌, refl, sym, ap, subst, ◌∙◌, ◌⊎◌, inl, inr}
-use Rattle.std.proofs.lemmas.Bool.{false≢true}
+use Rattle.std.proofs.Common.{◌≡◌, ◌≢◌, Bool, true, false, if◌then◌else◌, List, [], ◌∷◌, ◌++◌, map, ◌≤◌, refl, sym, ap, subst, ◌∙◌, ◌⊎◌, inl, inr}
 use Rattle.std.specs.List.{flat_map}
 use Rattle.roc_sequence.specs.Lists.{Has}
 use Rattle.roc_sequence.specs.Places.{IsListed, is_listed}
 use Rattle.roc_sequence.proofs.Members.{has_left, has_right, has_append, has_more, has_map, from_has_map, has_flat_map, from_has_flat_map, has_filter, from_has_filter}
-use Rattle.roc_sequence.proofs.Places.{listed_true, listed_test}
 use Rattle.roc_base.specs.declared.id.TxnId.{TxnId}
 use Rattle.roc_base.specs.TxnId.{is_txn}
-use Rattle.roc_base.proofs.Ids.{is_txn-ne, is_txn-false}
-use Rattle.roc_depgraph.specs.Closure.{IsRisingListOf}
+use Rattle.roc_base.proofs.Ids.{is_txn-ne}
 use Rattle.roc_depgraph.specs.Reach.{Reaches, ReachesOrIs, direct, through}
 use Rattle.roc_depgraph.proofs.Chains.{joined_chain}
 use Rattle.roc_component.specs.Components.{among}
@@ -19,10 +16,10 @@ use Rattle.roc_audit.specs.declared.entry.Entry.TheVariants.{Submitted, Answered
 use Rattle.roc_audit.specs.History.{WasSubmitted, IsAnsweredBefore}
 use Rattle.roc_precedence.specs.declared.pair.Pair.{Pair}
 use Rattle.roc_precedence.specs.Pairs.{IsPaired}
-use Rattle.roc_precedence.specs.Cycles.{LeadsAlong, IsCycle, HasCycle, IsLeastCycle, BeginsWithLeast}
-use Rattle.roc_precedence.proofs.Walks.{leads_chain, cycle_chain, chain_cycle}
+use Rattle.roc_precedence.specs.Cycles.{LeadsAlong, IsCycle, HasCycle, IsLeastCycle}
+use Rattle.roc_precedence.proofs.Walks.{leads_chain}
 use Rattle.roc_judge.specs.declared.folded.Folded.{Folded}
-use Rattle.roc_judge.specs.Before.{StandsBefore, do_meet, RunsFirst, RunsAlone, IsBeforeIn, GoesBefore, candidates, told}
+use Rattle.roc_judge.specs.Before.{StandsBefore, do_meet, IsBeforeIn, GoesBefore, told}
 use Rattle.roc_judge.specs.Inner.Uses.{pair_with}
 use Rattle.roc_judge.specs.Inner.Times.{pair_of}
 use Rattle.roc_judge.specs.Inner.Pairs.{of_ids}
@@ -30,6 +27,7 @@ use Rattle.roc_judge.specs.Inner.Whole.{meeting_pair, pairs_behind, all_uses, wi
 use Rattle.roc_judge.proofs.Meeting.{from_with}
 use Rattle.roc_judge.proofs.Chained.{stands_filter, from_stands_filter}
 use Rattle.roc_judge.proofs.Timed.{submitted_behind}
+use Rattle.roc_precedence.proofs.Around.{leads_other}
 
 -- ---- accesses
 
@@ -236,13 +234,9 @@ module _ (folds : List Folded) (ids : List TxnId) where
 
 -- ---- the least cycle
 
-leads_weaker : (E F : TxnId → TxnId → Type 0) → ((u t : TxnId) → E u t → F u t) → (xs : List TxnId) (u t : TxnId) → LeadsAlong E u xs t → LeadsAlong F u xs t
-leads_weaker E F f [] u t l = f u t l
-leads_weaker E F f (x ∷ xs) u t l = (f u x l.0, leads_weaker E F f xs x t l.1)
-
 cycle_weaker : (E F : TxnId → TxnId → Type 0) → ((u t : TxnId) → E u t → F u t) → (c : List TxnId) → IsCycle E c → IsCycle F c
 cycle_weaker E F f [] h = elim h [ ]
-cycle_weaker E F f (x ∷ xs) h = leads_weaker E F f xs x x h
+cycle_weaker E F f (x ∷ xs) h = leads_other E F f xs x x h
 
 -- what lies on a way around is on a circle
 module _ (E F : TxnId → TxnId → Type 0) (to : (u t : TxnId) → Reaches E u u → Reaches E t t → E u t → F u t) where

@@ -38,7 +38,6 @@ use Rattle.roc_law_protocol.specs.declared.event.Seen.{Seen}
 use Rattle.roc_law_protocol.specs.declared.event.Seen.TheVariants as seen
 use Rattle.roc_law_protocol.specs.Happens.{ran_at, answer_entries}
 use Rattle.roc_law_protocol.specs.World.{sent_by}
-use Rattle.roc_law_world.proofs.Besides.{set_there}
 use Rattle.roc_law_world.specs.World.{World, mark_delivered}
 use Rattle.roc_law_world.specs.Happens.{Outcome, Submits, IsReceived, StopsIn, at_rest, unrecorded, recorded, restarted}
 use Rattle.roc_law_world.specs.Run.{Transition}
@@ -52,6 +51,7 @@ use Rattle.roc_fold.proofs.Counted.{submission_tells}
 use Rattle.roc_fold.proofs.ToldLines.{outs_tell, outs_alone}
 use Rattle.roc_law_audit.specs.LogsOfRuns.{node_of_event, outs_gained, lines_of_entry, answers_gained, LogsMessage, LogsDelivery, LogsSubmission, LogsOwn}
 use Rattle.roc_law_audit.proofs.Stopped.{tagged_brings}
+use Rattle.roc_law_protocol.proofs.Stops.{set_there}
 
 -- ---- what a step gives
 

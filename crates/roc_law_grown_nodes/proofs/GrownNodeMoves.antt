@@ -32,12 +32,12 @@ use Rattle.roc_grown_node.specs.declared.judging.GrownJudged.{GrownJudged}
 use Rattle.roc_grown_node.specs.declared.judging.GrownJudged.TheVariants.{Delivery, Skipped}
 use Rattle.roc_grown_serve.specs.GrownRun.{GrownNodeState, grown_heard, grown_received, TakesGrownMessage, TakesGrownJudged, AfterGrownTurn}
 use Rattle.roc_grown_submit.specs.GrownCoordRun.{grown_step_of_judged, grown_step_of_event, grown_reply_lines, grown_coord_took}
-use Rattle.roc_law_world.proofs.Besides.{set_there}
 use Rattle.roc_law_nodes.proofs.NodeMoves.{map_set, map_get, line_in, lines_in}
 use Rattle.roc_law_nodes.proofs.SideBySide.{all_gained}
 use Rattle.roc_law_grown_nodes.specs.GrownInterleaved.{AllGrownSettings, next_at, grown_setting_at, GrownCoordPlace, between, grown_node_at, AllGrownNodes, sealed_of, grown_server_moved}
 use Rattle.roc_law_grown_nodes.specs.GrownInterleaved.{grown_coord_moved, IsFiledSent, IsGrownJudgedSent, IsGrownCaused}
 use Rattle.roc_law_grown_nodes.proofs.GrownStands.{GrownStands, stands_as, server_delivers, server_ticks, coord_delivers, coord_ticks}
+use Rattle.roc_law_protocol.proofs.Stops.{set_there}
 
 -- ---- messages and lines
 

@@ -34,12 +34,12 @@ use Rattle.roc_grown_node.specs.Setting.{GrownNodeSetting}
 use Rattle.roc_grown_submit.specs.GrownCoordRun.{GrownCoordNodeState, GrownSubmissions, none_grown_submitted, with_drain, is_first_answered, drained_first, grown_submit_lines, grown_submitted_call}
 use Rattle.roc_grown_submit.specs.GrownCoordRun.{grown_submitted, grown_accepts_call, grown_accepts, grown_submitted_all, submitted_first, of_later, submitted_later, grown_submissions_of}
 use Rattle.roc_grown_submit.specs.GrownCoordRun.{grown_submitted_node, plan_of_file}
-use Rattle.roc_law_world.proofs.Besides.{set_there}
 use Rattle.roc_law_nodes.proofs.NodeMoves.{line_in}
 use Rattle.roc_law_nodes.proofs.SubmitMoves.{set_again}
 use Rattle.roc_law_grown_nodes.specs.GrownInterleaved.{AllGrownSettings, grown_setting_at, between, within, AllGrownNodes, grown_coord_moved}
 use Rattle.roc_law_grown_nodes.proofs.GrownNodeMoves.{Mirrors, core_there, coord_as}
 use Rattle.roc_law_grown_nodes.proofs.GrownStands.{GrownStands, stands_as, coord_drains, coord_requests}
+use Rattle.roc_law_protocol.proofs.Stops.{set_there}
 
 -- ---- what is accepted
 

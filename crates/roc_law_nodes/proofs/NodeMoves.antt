@@ -37,8 +37,8 @@ use Rattle.roc_law_nodes.specs.Turns.{judged_brings, turn_brings, is_for_core}
 use Rattle.roc_law_nodes.specs.Interleaved.{AllSettings, setting_at, CoordPlace, between, node_at, AllNodes, server_moved, coord_moved, IsMessageSent, IsJudgedSent, IsCaused}
 use Rattle.roc_law_nodes.proofs.ServerFolds.{of_message}
 use Rattle.roc_law_nodes.proofs.SideBySide.{all_gained}
-use Rattle.roc_law_world.proofs.Besides.{set_there}
 use Rattle.roc_law_nodes.proofs.WorldMoves.{with_own, WorldStands, stands_as, server_delivers, server_ticks, coord_delivers, coord_ticks}
+use Rattle.roc_law_protocol.proofs.Stops.{set_there}
 
 -- ---- lists
 

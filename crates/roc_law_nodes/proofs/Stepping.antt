@@ -27,12 +27,12 @@ use Rattle.roc_law_protocol.specs.declared.event.Kept.{Kept}
 use Rattle.roc_law_protocol.specs.declared.event.Kept.TheVariants.{Lost, Sent}
 use Rattle.roc_law_protocol.specs.World.{sent_by}
 use Rattle.roc_law_protocol.proofs.Changed.{get-front}
-use Rattle.roc_law_world.proofs.Besides.{set_there}
 use Rattle.roc_law_world.specs.World.{World, mark_delivered}
 use Rattle.roc_law_world.specs.Happens.{Outcome, IsSubmissionOf, IsReceived, no_reads, StopsIn, at_rest, unrecorded, recorded, restarted}
 use Rattle.roc_law_world.specs.Run.{Transition}
 use Rattle.roc_law_nodes.specs.Own.{OwnEvent, delivered, ticked, requested, stopped, stopped_at, heard_by, own_step}
 use Rattle.roc_law_nodes.specs.Fold.{ServerSteps, CoordSteps}
+use Rattle.roc_law_protocol.proofs.Stops.{set_there}
 
 -- from w to v an event is an own event of this node, which sends these messages
 pub record IsStepAt (w v : World) (e : Option Event) (at : Node) (own : OwnEvent) (outs : List Outgoing) : Type 0 where

@@ -30,8 +30,8 @@ use Rattle.roc_law_nodes.specs.Turns.{own_request, own_requests, next_requests}
 use Rattle.roc_law_nodes.specs.Interleaved.{AllSettings, setting_at, between, within, AllNodes, coord_moved}
 use Rattle.roc_law_nodes.proofs.CoordFolds.{taken_are}
 use Rattle.roc_law_nodes.proofs.NodeMoves.{line_in, none_own, Mirrors, core_there, coord_as}
-use Rattle.roc_law_world.proofs.Besides.{set_there}
 use Rattle.roc_law_nodes.proofs.WorldMoves.{with_own, WorldStands, stands_as, coord_requests}
+use Rattle.roc_law_protocol.proofs.Stops.{set_there}
 
 -- ---- lists
 

@@ -40,7 +40,7 @@ grown_on u v w a b =
       were = λ k h. elim (b.were k h) [ inl j ↦ a.were k j | inr l ↦ inr (let x = a.longer in omega arith) ];
     }
 
-range_from : (a n k : ℕ) → Has k (range_with_len a n) → a ≤ k
+pub range_from : (a n k : ℕ) → Has k (range_with_len a n) → a ≤ k
 range_from a zero k h = elim h [ ]
 range_from a (suc n) k (inl e) = omega (arith, e)
 range_from a (suc n) k (inr h) = let l = range_from (a + 1) n k h in omega arith

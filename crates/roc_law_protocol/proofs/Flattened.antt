@@ -9,6 +9,7 @@ use Rattle.roc_sequence.proofs.Members.{has_flat_map, from_has_flat_map}
 use Rattle.roc_base.specs.declared.id.TxnId.{TxnId}
 use Rattle.roc_base.specs.TxnId.{is_txn}
 use Rattle.roc_depgraph.proofs.Listed.{has_listed, listed_has}
+use Rattle.roc_component.proofs.OneTaken.{none_behind}
 
 abbrev pub flat : List (List TxnId) → List TxnId
 flat cs = flat_map (λ c. c) cs
@@ -31,17 +32,13 @@ front_apart [] ys t once h k = absurd h
 front_apart (x ∷ xs) ys t once (inl e) k = once.0 (listed_behind is_txn xs ys x (subst (IsListed is_txn ys) e k))
 front_apart (x ∷ xs) ys t once (inr h) k = front_apart xs ys t once.1 h k
 
-rest_once : (xs ys : List TxnId) → NoneTwice is_txn (xs ++ ys) → NoneTwice is_txn ys
-rest_once [] ys once = once
-rest_once (x ∷ xs) ys once = rest_once xs ys once.1
-
 -- a transaction is in one of them
 pub one_of_them : (cs : List (List TxnId)) → NoneTwice is_txn (flat cs) → (c e : List TxnId) (t : TxnId) → Has c cs → Has e cs → Has t c → Has t e → c ≡ e
 one_of_them [] once c e t h k x y = absurd h
 one_of_them (b ∷ cs) once c e t (inl f) (inl g) x y = f ∙ sym g
 one_of_them (b ∷ cs) once c e t (inl f) (inr k) x y = absurd (front_apart b (flat cs) t once (subst (Has t) f x) (in_listed cs e t k y))
 one_of_them (b ∷ cs) once c e t (inr h) (inl g) x y = absurd (front_apart b (flat cs) t once (subst (Has t) g y) (in_listed cs c t h x))
-one_of_them (b ∷ cs) once c e t (inr h) (inr k) x y = one_of_them cs (rest_once b (flat cs) once) c e t h k x y
+one_of_them (b ∷ cs) once c e t (inr h) (inr k) x y = one_of_them cs (none_behind b (flat cs) once) c e t h k x y
 
 -- Where some are left out that have neither of two transactions, these stand as before
 pub before_all : (p : List TxnId → Bool) (cs : List (List TxnId)) (a b : TxnId) → ((c : List TxnId) → Has c cs → p c ≡ false → (¬ Has a c) × (¬ Has b c))

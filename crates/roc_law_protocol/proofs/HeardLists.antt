@@ -43,7 +43,7 @@ known_either known news t h =
     elim (has_append k.0 known news k.1) [ inl j ↦ inl (subst (IsKnown known) k.2 (has_known known k.0 j)) | inr j ↦ inr (k.0, j, k.2) ]
 
 -- what was asked for by now is of these, or was asked for
-asked_either : (a : OpenFetch) (more old : List OpenFetch) → Has a (with_all_asked more old) → Has a more ⊎ Has a old
+pub asked_either : (a : OpenFetch) (more old : List OpenFetch) → Has a (with_all_asked more old) → Has a more ⊎ Has a old
 asked_either a [] old h = inr h
 asked_either a (b ∷ more) old h = elim (asked_either a more (with_asked b old) h) [
   | inl k ↦ inl (inr k)

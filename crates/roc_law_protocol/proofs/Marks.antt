@@ -42,12 +42,12 @@ mark_told plan old new out h = go (passes_mark old new) h
     go false k = absurd k
 
 -- none without a reply is below the watermark
-least_of : (id : TxnId) (ids : List TxnId) (next : ℕ) → Has id ids → least_seq ids next ≤ id.seq
+pub least_of : (id : TxnId) (ids : List TxnId) (next : ℕ) → Has id ids → least_seq ids next ≤ id.seq
 least_of id [] next h = elim h [ ]
 least_of id (u ∷ us) next (inl e) = let same : id.seq ≡ u.seq = ap (λ (t : TxnId). t.seq) e in omega arith
 least_of id (u ∷ us) next (inr h) = let rest = least_of id us next h in omega arith
 
-least_next : (ids : List TxnId) (next : ℕ) → least_seq ids next ≤ next
+pub least_next : (ids : List TxnId) (next : ℕ) → least_seq ids next ≤ next
 least_next [] next = omega arith
 least_next (u ∷ us) next = let rest = least_next us next in omega arith
 

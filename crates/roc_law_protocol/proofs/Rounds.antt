@@ -1,7 +1,7 @@
 -- What a coordinator holds of a transaction, as it takes what comes
 use Rattle.std.proofs.Common.{◌≡◌, ℕ, ℤ, ◌==◌, Bool, true, false, cond, ◌&&◌, List, [], ◌∷◌, ◌++◌, Option, Some, None, map, refl, sym, ap, subst, ◌∙◌, ◌⊎◌, inl, inr, is_some, append-nil}
 use Rattle.std.proofs.lemmas.Bool.{eq-eqb, false≢true, and_parts, and_from, eqb-true, cond-false, false_from_ne_true}
-use Rattle.std.specs.Prelude.{filter, find, is_none}
+use Rattle.std.specs.Prelude.{filter, is_none}
 use Rattle.std.specs.List.{range_with_len, list_any, list_all}
 use Rattle.roc_sequence.specs.Lists.{Has}
 use Rattle.roc_sequence.proofs.Holds.{any_has, has_any, every_has, has_every}
@@ -27,21 +27,14 @@ use Rattle.roc_law_protocol.specs.Beginnings.{Beginning}
 use Rattle.roc_law_protocol.specs.PlanAssumptions.{IsSchemeOf}
 use Rattle.roc_law_protocol.proofs.Means.{HasBegun, run_of, place, ToldMeans, StartMeans, DoneMeans, TxnMeans}
 use Rattle.roc_law_protocol.proofs.Coordinators.{told_all, IsTold, number_below, told_of, ready_group}
+use Rattle.roc_law_protocol.proofs.Held.{more_found}
 
 abbrev pub numbered : ℕ → Shard
 numbered n = record { 0 = n }
 
-filter_none : {A : Type 0} (p : A → Bool) (xs : List A) → ((x : A) → Has x xs → p x ≡ false) → filter p xs ≡ []
+pub filter_none : {A : Type 0} (p : A → Bool) (xs : List A) → ((x : A) → Has x xs → p x ≡ false) → filter p xs ≡ []
 filter_none p [] h = refl
 filter_none p (x ∷ xs) h = cond-false (p x) (x ∷ filter p xs) (filter p xs) (h x (inl refl)) ∙ filter_none p xs (λ y k. h y (inr k))
-
-find_more : {A : Type 0} (p : A → Bool) (xs ys : List A) → is_some (find p xs) ≡ true → is_some (find p (xs ++ ys)) ≡ true
-find_more p [] ys h = absurd (false≢true h)
-find_more p (x ∷ xs) ys h = go (p x) h (find_more p xs ys)
-  where
-    go : (b : Bool) → is_some (cond b (Some x) (find p xs)) ≡ true → (is_some (find p xs) ≡ true → is_some (find p (xs ++ ys)) ≡ true) → is_some (cond b (Some x) (find p (xs ++ ys))) ≡ true
-    go true k ih = refl
-    go false k ih = ih k
 
 module _ (plan : Plan) (asked : TxnId → whole.Call) (S : Scheme) (start : Beginning) (is : IsSchemeOf plan asked S) (c : Log) (i : LogInvariants S start.store c) where
   pub told : (x : Transaction) → TxnMeans plan asked S start c x → IsTold plan asked S start is c i x
@@ -178,7 +171,7 @@ module _ (plan : Plan) (asked : TxnId → whole.Call) (S : Scheme) (start : Begi
             | inl k ↦ m.told o k
             | inr k ↦ subst (λ (o : TakenStart). was_asked x o.group (record { 0 = place plan asked S start c (run_of t o.group) }) ≡ true) (sym (has_one o ok k)) (subst (λ n. was_asked x ok.group (record { 0 = n }) ≡ true) on was)
           ];
-          asked_whole = λ s h. (let w = m.asked_whole s h in (has_every (λ g. is_some (find_startok g (x.startoks ++ ok ∷ []))) (group_numbers plan x.proc) (λ g k. find_more (λ (o : TakenStart). o.group == g) x.startoks (ok ∷ []) (every_has (λ g. is_some (find_startok g x.startoks)) (group_numbers plan x.proc) w.0 g k)), w.1));
+          asked_whole = λ s h. (let w = m.asked_whole s h in (has_every (λ g. is_some (find_startok g (x.startoks ++ ok ∷ []))) (group_numbers plan x.proc) (λ g k. more_found (λ (o : TakenStart). o.group == g) x.startoks (ok ∷ []) (every_has (λ g. is_some (find_startok g x.startoks)) (group_numbers plan x.proc) w.0 g k)), w.1));
           commitoks = m.commitoks;
         }
       where
@@ -186,4 +179,4 @@ module _ (plan : Plan) (asked : TxnId → whole.Call) (S : Scheme) (start : Begi
         still [] h = refl
         still (a ∷ inputs) h =
             let p = and_parts (is_some (find_startok a.group x.startoks)) (list_all (λ a. is_some (find_startok a.group x.startoks)) inputs) h in
-            and_from (is_some (find_startok a.group (x.startoks ++ ok ∷ []))) (list_all (λ a. is_some (find_startok a.group (x.startoks ++ ok ∷ []))) inputs) (find_more (λ (o : TakenStart). o.group == a.group) x.startoks (ok ∷ []) p.0) (still inputs p.1)
+            and_from (is_some (find_startok a.group (x.startoks ++ ok ∷ []))) (list_all (λ a. is_some (find_startok a.group (x.startoks ++ ok ∷ []))) inputs) (more_found (λ (o : TakenStart). o.group == a.group) x.startoks (ok ∷ []) p.0) (still inputs p.1)

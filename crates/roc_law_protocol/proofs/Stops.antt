@@ -15,7 +15,7 @@ use Rattle.roc_law_protocol.specs.Happens.{Outcome, IsSentTo, TransactionStopsIn
 use Rattle.roc_law_protocol.proofs.Changed.{get-set_here}
 
 -- what stands at a place is put there
-set_there : {A : Type 0} (xs : List A) (i : ℕ) (x : A) → slice_get xs i ≡ Some x → slice_set xs i x ≡ xs
+pub set_there : {A : Type 0} (xs : List A) (i : ℕ) (x : A) → slice_get xs i ≡ Some x → slice_set xs i x ≡ xs
 set_there [] i x e = refl
 set_there (y ∷ ys) zero x e = let same : y ≡ x = cc in ap (λ z. z ∷ ys) (sym same)
 set_there (y ∷ ys) (suc i) x e = ap (λ zs. y ∷ zs) (set_there ys i x e)

@@ -16,7 +16,7 @@ use Rattle.roc_depgraph.specs.declared.known.KnownList.{KnownList}
 use Rattle.roc_depgraph.specs.Deps.{is_known, IsDecided}
 use Rattle.roc_depgraph.proofs.Laws.{known_stays, precedes_back}
 use Rattle.roc_step.specs.declared.waits.OpenFetch.{OpenFetch}
-use Rattle.roc_step.specs.Waits.{is_asked_before, with_asked, with_all_asked, without_asked}
+use Rattle.roc_step.specs.Waits.{without_asked}
 use Rattle.roc_plan.specs.Groups.{Plan}
 use Rattle.roc_whole.specs.Serial as whole
 use Rattle.roc_law_orders.specs.Behaviour.{is_txn_group}
@@ -37,16 +37,7 @@ use Rattle.roc_law_protocol.proofs.Means.{HasBegun, AllMean, ServerMeans}
 use Rattle.roc_law_protocol.proofs.Gone.{IsGone}
 use Rattle.roc_law_protocol.proofs.Followed.{AreFollowedOf, followed_learnt, followed_marked, among_known, known_marked, precedes_marked}
 use Rattle.roc_law_protocol.proofs.Deciding.{IsChange, more_keeps}
-
-asked_cases : (a : OpenFetch) (more old : List OpenFetch) → Has a (with_all_asked more old) → Has a more ⊎ Has a old
-asked_cases a [] old h = inr h
-asked_cases a (b ∷ more) old h = elim (asked_cases a more (with_asked b old) h) [
-  | inl k ↦ inl (inr k)
-  | inr k ↦ elim (has_append a (filter (λ x. is_asked_before x b) old) (b ∷ filter (λ x. is_asked_before b x) old) k) [
-    | inl l ↦ inr (from_has_filter (λ x. is_asked_before x b) a old l).0
-    | inr l ↦ elim l [ inl e ↦ inl (inl e) | inr l ↦ inr (from_has_filter (λ x. is_asked_before b x) a old l).0 ]
-  ]
-]
+use Rattle.roc_law_protocol.proofs.HeardLists.{asked_either}
 
 module _ (plan : Plan) (asked : TxnId → whole.Call) (S : Scheme) (start : Beginning) (laws : LogLaws S start.store) (c : Log) (i : LogInvariants S start.store c) where
   -- what an entry names began on the entry's shard
@@ -112,7 +103,7 @@ module _ (plan : Plan) (asked : TxnId → whole.Call) (S : Scheme) (start : Begi
             links = followed;
             keeps = λ t h. known_stays s.lists.links links (more_keeps s.lists.links (links_of s news)) t h;
             was = λ u t h p. precedes_back s.lists.links links (more_keeps s.lists.links (links_of s news)) u t h p;
-            asked_begun = λ a h. elim (asked_cases a (missing_after s news) s.lists.waiting.asked h) [ inl k ↦ missing_begun a k | inr k ↦ o.fetched a k ];
+            asked_begun = λ a h. elim (asked_either a (missing_after s news) s.lists.waiting.asked h) [ inl k ↦ missing_begun a k | inr k ↦ o.fetched a k ];
             new = new;
             taken = refl;
           }

@@ -33,7 +33,7 @@ use Rattle.roc_audit.proofs.Histories.{submitted_front}
 use Rattle.roc_law_protocol.specs.Happens.{answer_entries}
 use Rattle.roc_law_world.specs.World.{World}
 use Rattle.roc_law_world.proofs.Coordinators.{IsCoordSound, pending_no_view}
-use Rattle.roc_law_world.proofs.ViewsStay.{get-set_here, get-set_other, get-set_cases}
+use Rattle.roc_law_protocol.proofs.Changed.{get-set_here, get-set_other, get-set_cases}
 
 -- ---- what comes of a message at a coordinator
 

@@ -34,7 +34,8 @@ use Rattle.roc_law_world.specs.Beside.{is_of_view}
 use Rattle.roc_law_world.proofs.Versions.{writes_more}
 use Rattle.roc_law_world.proofs.Readings.{ViewLaws, AreSteady}
 use Rattle.roc_law_world.proofs.ViewMeans.{is_view_id, ViewsMean}
-use Rattle.roc_law_world.proofs.ViewsStay.{get-set_here, get-set_other, get-set_cases, goes_on}
+use Rattle.roc_law_world.proofs.ViewsStay.{goes_on}
+use Rattle.roc_law_protocol.proofs.Changed.{get-set_here, get-set_other, get-set_cases}
 
 -- ---- what the world of transactions gives of a step
 

@@ -31,15 +31,7 @@ use Rattle.roc_msg.specs.declared.msg.Envelope.{Envelope}
 use Rattle.roc_law_protocol.specs.declared.event.Event.TheVariants.{Deliver, Stop}
 use Rattle.roc_law_protocol.specs.declared.event.Kept.{Kept}
 use Rattle.roc_law_world.proofs.TakenAlike.{TakesAlike, none_taken}
-
--- what stands at a place may be put there
-pub set_there : {A : Type 0} (xs : List A) (i : ℕ) (x : A) → slice_get xs i ≡ Some x → slice_set xs i x ≡ xs
-set_there [] i x h = refl
-set_there (y ∷ ys) zero x h = ap (λ z. z ∷ ys) (the h)
-  where
-    the : Some y ≡ Some x → x ≡ y
-    the h = cc
-set_there (y ∷ ys) (suc i) x h = ap (λ l. y ∷ l) (set_there ys i x h)
+use Rattle.roc_law_protocol.proofs.Stops.{set_there}
 
 pub set_cases : {A : Type 0} (xs : List A) (i j : ℕ) (a b c : A) → slice_get xs i ≡ Some a → slice_get (slice_set xs i b) j ≡ Some c → (c ≡ b) ⊎ (slice_get xs j ≡ Some c)
 set_cases [] i j a b c there at = absurd (cc)

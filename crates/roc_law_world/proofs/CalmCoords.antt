@@ -22,9 +22,9 @@ use Rattle.roc_audit.specs.History.{WasSubmitted}
 use Rattle.roc_law_protocol.specs.World.{sent_by}
 use Rattle.roc_law_world.specs.World.{World}
 use Rattle.roc_law_world.proofs.ServerMarks.{IsAbove}
-use Rattle.roc_law_world.proofs.ViewsStay.{get-set_here, get-set_other, get-set_cases}
 use Rattle.roc_law_world.proofs.Comings.{Came}
 use Rattle.roc_law_world.proofs.Calm.{IsPassed, IsOfSubmitted, IsOpen, Fits, Done, IsCalm, KeepsViews, AreCalm, calm_on}
+use Rattle.roc_law_protocol.proofs.Changed.{get-set_here, get-set_other, get-set_cases}
 
 -- what was submitted was so before more is told
 pub submitted_more : (history told : List Entry) (t : TxnId) → WasSubmitted history t → WasSubmitted (history ++ told) t

@@ -35,13 +35,13 @@ use Rattle.roc_law_world.specs.Happens.{Outcome, IsServed}
 use Rattle.roc_law_world.proofs.Sent.{AreOfTransactions}
 use Rattle.roc_law_world.proofs.ServerSends as server_sends
 use Rattle.roc_law_world.proofs.ServerMarks.{IsAbove, KeepsMarks, keeps_marks, tick_marks}
-use Rattle.roc_law_world.proofs.Besides.{set_there}
-use Rattle.roc_law_world.proofs.ViewsStay.{get-set_here, get-set_other, get-set_cases}
 use Rattle.roc_law_world.proofs.ViewServed.{with_cases}
 use Rattle.roc_law_world.proofs.ReadCounts.{uses_counted, outs_counted}
 use Rattle.roc_law_world.proofs.KeptReads.{was_there, kept_or_told, kept_was, ignored_was, told_is, kept_is_held, brought}
 use Rattle.roc_law_world.proofs.Comings.{came_sends, came_or_comes}
 use Rattle.roc_law_world.proofs.Calm.{IsPassed, IsOfSubmitted, transactions_submitted, read_of, IsFor, Fits, transactions_fit, IsKept, IsTold, Done, IsCalm, KeepsHeld, AreCalm, calm_on, open_not_passed}
+use Rattle.roc_law_protocol.proofs.Stops.{set_there}
+use Rattle.roc_law_protocol.proofs.Changed.{get-set_here, get-set_other, get-set_cases}
 
 the_server : (a b : ℕ) → Server (record { 0 = a }) ≡ Server (record { 0 = b }) → a ≡ b
 the_server a b e = ap (λ (s : Shard). s.0) (the_shard (record { 0 = a }) (record { 0 = b }) e)

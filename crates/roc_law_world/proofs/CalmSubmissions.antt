@@ -26,13 +26,13 @@ use Rattle.roc_law_protocol.specs.World.{sent_by}
 use Rattle.roc_law_world.specs.World.{World, at_coord, at_coord_tick}
 use Rattle.roc_law_world.specs.Beside.{is_of_view}
 use Rattle.roc_law_world.proofs.Sent.{AreOfTransactions}
-use Rattle.roc_law_world.proofs.Besides.{set_there}
 use Rattle.roc_law_world.proofs.AsideSteps.{starts_kept}
 use Rattle.roc_law_world.proofs.RoundReads.{IsReadOf, reads_are, group_there, again_are}
 use Rattle.roc_law_world.proofs.CoordMarks.{least_more, new_starts_none, reads_none, tick_tells}
 use Rattle.roc_law_world.proofs.Comings.{came_sent, came_sends}
 use Rattle.roc_law_world.proofs.Calm.{IsOfSubmitted, transactions_submitted, Fits, transactions_fit, Done, IsCalm, KeepsViews, AreCalm}
 use Rattle.roc_law_world.proofs.CalmCoords.{IsApart, stepped_calm}
+use Rattle.roc_law_protocol.proofs.Stops.{set_there}
 
 the_submission : (a b : TxnId) (p q : ℕ) (x y : List ℤ) → Submitted a p x ≡ Submitted b q y → (a ≡ b) × (p ≡ q)
 the_submission a b p q x y e = (cc, cc)

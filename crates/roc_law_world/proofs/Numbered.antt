@@ -27,9 +27,9 @@ use Rattle.roc_law_protocol.proofs.Firsts.{found_at}
 use Rattle.roc_law_world.specs.World.{World, Beginning, mark_delivered, at_coord}
 use Rattle.roc_law_world.specs.Happens.{Outcome, IsReceived, IsSubmissionOf}
 use Rattle.roc_law_world.specs.Run.{Stepped, Transition, IsRunFrom, at_beginning, steps_on}
-use Rattle.roc_law_world.proofs.ViewsStay.{get-set_here, get-set_other, get-set_cases}
 use Rattle.roc_law_protocol.proofs.Submissions.{keeps_number}
 use Rattle.roc_law_world.proofs.Stops.{by_losing}
+use Rattle.roc_law_protocol.proofs.Changed.{get-set_here, get-set_other, get-set_cases}
 
 -- what was submitted has a sequence that its coordinator used, and was submitted once
 pub record IsNumbered (w : World) : Type 0 where

@@ -39,7 +39,7 @@ use Rattle.roc_law_protocol.specs.declared.event.Kept.{Kept}
 use Rattle.roc_law_protocol.specs.declared.event.Kept.TheVariants.{Lost, Sent}
 
 -- what stands at a place of a list
-there : {A : Type 0} (xs : List A) (n : ℕ) → n < length xs → (a : A) × (slice_get xs n ≡ Some a)
+pub there : {A : Type 0} (xs : List A) (n : ℕ) → n < length xs → (a : A) × (slice_get xs n ≡ Some a)
 there xs n l = elim (slice_get_cases xs n).1 [ inl c ↦ (c.0, c.2) | inr c ↦ (let past = c.0 in absurd (omega (arith, past, l))) ]
 
 -- ---- a submission

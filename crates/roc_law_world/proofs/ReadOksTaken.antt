@@ -44,9 +44,10 @@ use Rattle.roc_law_world.specs.Beside.{is_of_view}
 use Rattle.roc_law_world.proofs.Sent.{AreOfTransactions}
 use Rattle.roc_law_world.proofs.Readings.{ViewLaws, AreSteady, IsReading, steady_reading}
 use Rattle.roc_law_world.proofs.ViewMeans.{IsLastLook, proc_of, args_of, IsReadBetween, IsViewKept, IsViewAnswered, reply_behind, ViewsMean}
-use Rattle.roc_law_world.proofs.ViewsStay.{get-set_here, get-set_other, get-set_cases, kept_on, answered_on, rounds_on, for_on, of_transactions_for, no_read, no_ok}
+use Rattle.roc_law_world.proofs.ViewsStay.{kept_on, answered_on, rounds_on, for_on, of_transactions_for, no_read, no_ok}
 use Rattle.roc_law_world.proofs.RoundReads.{no_looks, one_look, IsReadOf, reads_are, group_there, read_id, read_no_ok}
 use Rattle.roc_law_world.proofs.ViewRounds.{found_one, number, view_replaced}
+use Rattle.roc_law_protocol.proofs.Changed.{get-set_here, get-set_other, get-set_cases}
 
 module _ (plan : Plan) (calls : TxnId → whole.Call) (asked : TxnId → whole.Call) (S : Scheme) (start : protocol.Beginning) (before : ℕ → Counts) where
   abbrev Mean : World → Log → Type 0

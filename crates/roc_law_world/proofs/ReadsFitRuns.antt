@@ -39,11 +39,11 @@ use Rattle.roc_law_world.proofs.Runs.{beside, grows}
 use Rattle.roc_law_world.proofs.ServerSends as server_sends
 use Rattle.roc_law_world.proofs.AsideSteps.{starts_kept}
 use Rattle.roc_law_world.proofs.ViewMeans.{TellsCalls, is_view_id}
-use Rattle.roc_law_world.proofs.ViewsStay.{get-set_here, get-set_cases}
 use Rattle.roc_law_world.proofs.ViewWitness.{calls_tell_views}
 use Rattle.roc_law_world.proofs.Stops.{by_losing, Loses, less}
 use Rattle.roc_law_protocol.specs.Happens.{IsSentTo, ran_at}
 use Rattle.roc_step.specs.Reads.{AnswersReads, ReadStep}
+use Rattle.roc_law_protocol.proofs.Changed.{get-set_here, get-set_cases}
 
 module _ (plan : Plan) (calls : TxnId → whole.Call) where
   -- each server has its number

@@ -35,13 +35,14 @@ use Rattle.roc_law_protocol.proofs.Changed.{get-front}
 use Rattle.roc_law_world.proofs.TakenAlike.{none_taken, came_alike}
 use Rattle.roc_law_world.proofs.Coordinators.{is_sound}
 use Rattle.roc_law_world.proofs.CoordSteps.{for_transactions, for_views}
-use Rattle.roc_law_world.proofs.Besides.{set_there, kept_envelopes, Holds, Follows, stays, coord_beside, server_beside, server_still, coords_set, AreEventsBeside, never_beside}
+use Rattle.roc_law_world.proofs.Besides.{kept_envelopes, Holds, Follows, stays, coord_beside, server_beside, server_still, coords_set, AreEventsBeside, never_beside}
 use Rattle.roc_base.specs.declared.node.Shard.{Shard}
 use Rattle.roc_law_protocol.specs.declared.event.Kept.{Kept}
 use Rattle.roc_law_protocol.specs.Forgotten.{delivers as by_delivery}
 use Rattle.roc_law_world.proofs.ServerSteps.{one_less, reads_of_views, sent_for_transactions, IsIdle, idle}
 use Rattle.roc_law_world.proofs.AsideSteps.{view_message, submits}
 use Rattle.roc_law_world.proofs.StopSteps.{stops}
+use Rattle.roc_law_protocol.proofs.Stops.{set_there}
 
 module _ (plan : Plan) (is_view : TxnId → Bool) where
   -- ---- a delivery

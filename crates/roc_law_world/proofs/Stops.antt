@@ -21,7 +21,7 @@ use Rattle.roc_law_protocol.proofs.Stopping.{take_has}
 use Rattle.roc_law_world.specs.World.{World, sends, mark_delivered, at_server}
 use Rattle.roc_law_world.specs.Happens.{Outcome, no_reads, StopsIn, at_rest, unrecorded, recorded, restarted, IsStopped}
 use Rattle.roc_law_protocol.proofs.Changed.{get-set_here, get-set_other, get-set_cases}
-use Rattle.roc_law_world.proofs.Besides.{set_there}
+use Rattle.roc_law_protocol.proofs.Stops.{set_there}
 
 -- ---- a world that loses
 

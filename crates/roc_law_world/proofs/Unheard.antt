@@ -39,7 +39,7 @@ use Rattle.roc_law_world.proofs.Numbered.{IsNumbered, numbered}
 use Rattle.roc_law_world.proofs.SameNodes.{run_count}
 use Rattle.roc_law_world.proofs.ServerMarks.{IsAbove, KeepsMarks, keeps_marks, tick_marks}
 use Rattle.roc_law_world.proofs.Stops.{Loses, less, by_losing}
-use Rattle.roc_law_world.proofs.ViewsStay.{get-set_cases}
+use Rattle.roc_law_protocol.proofs.Changed.{get-set_cases}
 
 module _ (t : TxnId) where
   -- the coordinator of t is not there, and no watermark above t is told or was heard

@@ -30,8 +30,9 @@ use Rattle.roc_law_protocol.specs.World.{sent_by}
 use Rattle.roc_law_world.specs.World.{World, looks_in, at_coord, at_coord_tick}
 use Rattle.roc_law_world.specs.Beside.{is_of_view}
 use Rattle.roc_law_world.proofs.ViewMeans.{proc_of, args_of, is_view_id, MessageIsFor, IsViewKept, ViewsMean}
-use Rattle.roc_law_world.proofs.ViewsStay.{get-set_here, get-set_other, get-set_cases, kept_on, answered_on, rounds_on, for_on, of_transactions_for, no_read, no_ok}
+use Rattle.roc_law_world.proofs.ViewsStay.{kept_on, answered_on, rounds_on, for_on, of_transactions_for, no_read, no_ok}
 use Rattle.roc_law_world.proofs.RoundReads.{one_look, IsReadOf, reads_are, group_there, read_is_for, read_id, read_no_ok}
+use Rattle.roc_law_protocol.proofs.Changed.{get-set_here, get-set_other, get-set_cases}
 
 module _ (plan : Plan) (calls : TxnId → whole.Call) (asked : TxnId → whole.Call) (S : Scheme) (start : protocol.Beginning) (before : ℕ → Counts) where
   abbrev Mean : World → Log → Type 0

@@ -63,11 +63,10 @@ use Rattle.roc_law_world.proofs.ServerSends as server_sends
 use Rattle.roc_law_world.proofs.IgnoredRuns.{ignored_runs}
 use Rattle.roc_law_world.proofs.Coordinators.{IsCoordSound}
 use Rattle.roc_law_world.proofs.CoordSteps.{IsForTransactions, for_transactions, are_marks}
-use Rattle.roc_law_world.proofs.Besides.{set_there}
 use Rattle.roc_law_world.proofs.AsideSteps.{starts_kept}
 use Rattle.roc_law_world.proofs.Readings.{ViewLaws, AreSteady}
 use Rattle.roc_law_world.proofs.ViewMeans.{TellsCalls, proc_of, args_of, is_view_id, ViewsMean}
-use Rattle.roc_law_world.proofs.ViewsStay.{get-set_here, goes_on}
+use Rattle.roc_law_world.proofs.ViewsStay.{goes_on}
 use Rattle.roc_law_world.proofs.ViewServed.{views_served}
 use Rattle.roc_law_world.proofs.RoundReads.{again_are, no_looks}
 use Rattle.roc_law_world.proofs.ViewRounds.{view_submitted, view_ticked}
@@ -78,6 +77,8 @@ use Rattle.roc_law_protocol.specs.declared.event.Kept.{Kept}
 use Rattle.roc_audit.specs.Order.{noted}
 use Rattle.roc_law_world.proofs.Stops.{rest_is, rest_loses, cut_loses, tick_is_sends, starts_there, stop_keeps}
 use Rattle.roc_law_world.proofs.Losing.{loses_means}
+use Rattle.roc_law_protocol.proofs.Stops.{set_there}
+use Rattle.roc_law_protocol.proofs.Changed.{get-set_here}
 
 module _ (plan : Plan) (calls : TxnId → whole.Call) (asked : TxnId → whole.Call) (S : Scheme) (start : protocol.Beginning) (before : ℕ → Counts) where
   abbrev Mean : World → Log → Type 0

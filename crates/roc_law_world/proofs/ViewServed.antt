@@ -41,7 +41,8 @@ use Rattle.roc_law_world.proofs.Sent.{AreOfTransactions}
 use Rattle.roc_law_world.proofs.Versions.{most, writes_in, count_accesses, ran_counts, writes_more, none_elsewhere}
 use Rattle.roc_law_world.proofs.Readings.{ViewLaws, AreVersions, version_in, IsReading, reading_made}
 use Rattle.roc_law_world.proofs.ViewMeans.{proc_of, args_of, IsReadFor, MessageIsFor, IsOfRounds, ViewsMean}
-use Rattle.roc_law_world.proofs.ViewsStay.{steps_then, get-set_cases, kept_on, answered_on, rounds_on, for_on, of_transactions_for, no_read, no_ok}
+use Rattle.roc_law_world.proofs.ViewsStay.{steps_then, kept_on, answered_on, rounds_on, for_on, of_transactions_for, no_read, no_ok}
+use Rattle.roc_law_protocol.proofs.Changed.{get-set_cases}
 
 -- ---- reads
 

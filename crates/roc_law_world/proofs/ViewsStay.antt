@@ -1,8 +1,8 @@
 -- What is kept and told for views says of the log what it has to still, where the log goes on and nothing is done for them
-use Rattle.std.proofs.Common.{◌≡◌, ◌≢◌, ◌∙◌, ◌⊎◌, inl, inr, ℕ, ℤ, zero, suc, ◌+◌, ◌<◌, ◌≤◌, min, true, false, List, [], ◌∷◌, ◌++◌, Some, length, take, refl, sym, ap, subst, arith, append-nil, append_assoc}
+use Rattle.std.proofs.Common.{◌≡◌, ◌≢◌, ◌∙◌, ◌⊎◌, inl, inr, ℕ, ℤ, ◌+◌, ◌<◌, ◌≤◌, min, true, false, List, [], ◌∷◌, ◌++◌, Some, length, take, refl, sym, ap, subst, arith, append-nil, append_assoc}
 use Rattle.std.proofs.lemmas.Bool.{false≢true}
 use Rattle.std.proofs.lemmas.List.{length-append, take-append-le}
-use Rattle.std.specs.Prelude.{slice_get, slice_set}
+use Rattle.std.specs.Prelude.{slice_get}
 use Rattle.roc_sequence.specs.Lists.{Has}
 use Rattle.roc_sequence.proofs.Members.{has_append, has_left}
 use Rattle.roc_base.specs.declared.id.TxnId.{TxnId}
@@ -41,41 +41,6 @@ steps_then S start a b c ab no_steps = ab
 steps_then S start a b c ab (one_step_more {some = s} bs step) = one_step_more (steps_then S start a b s ab bs) step
 
 -- ---- places
-
-pub get-set_here : {A : Type 0} (xs : List A) (i : ℕ) (a b : A) → slice_get xs i ≡ Some a → slice_get (slice_set xs i b) i ≡ Some b
-get-set_here [] i a b e = absurd (cc)
-get-set_here (x ∷ xs) zero a b e = refl
-get-set_here (x ∷ xs) (suc i) a b e = get-set_here xs i a b e
-
-pub get-set_other : {A : Type 0} (xs : List A) (i j : ℕ) (b : A) → i ≢ j → slice_get (slice_set xs i b) j ≡ slice_get xs j
-get-set_other [] i j b n = refl
-get-set_other (x ∷ xs) zero zero b n = absurd (n refl)
-get-set_other (x ∷ xs) zero (suc j) b n = refl
-get-set_other (x ∷ xs) (suc i) zero b n = refl
-get-set_other (x ∷ xs) (suc i) (suc j) b n = get-set_other xs i j b (λ e. n (ap suc e))
-
--- what is found in a list of which one place was set
-pub get-set_cases : {A : Type 0} (xs : List A) (i j : ℕ) (a b c : A) → slice_get xs i ≡ Some a → slice_get (slice_set xs i b) j ≡ Some c → ((i ≡ j) × (c ≡ b)) ⊎ ((i ≢ j) × (slice_get xs j ≡ Some c))
-get-set_cases [] i j a b c there at = absurd (cc)
-get-set_cases (x ∷ xs) zero zero a b c there at = inl (refl, the at)
-  where
-    the : Some b ≡ Some c → c ≡ b
-    the e = cc
-get-set_cases (x ∷ xs) zero (suc j) a b c there at = inr ((λ e. apart e), at)
-  where
-    apart : zero ≡ suc j → ⊥
-    apart e = omega arith
-get-set_cases (x ∷ xs) (suc i) zero a b c there at = inr ((λ e. apart e), at)
-  where
-    apart : suc i ≡ zero → ⊥
-    apart e = omega arith
-get-set_cases (x ∷ xs) (suc i) (suc j) a b c there at = elim (get-set_cases xs i j a b c there at) [
-  | inl k ↦ inl (ap suc k.0, k.1)
-  | inr k ↦ inr ((λ e. k.0 (less e)), k.1)
-]
-  where
-    less : suc i ≡ suc j → i ≡ j
-    less e = omega arith
 
 module _ (plan : Plan) (calls : TxnId → whole.Call) (asked : TxnId → whole.Call) (S : Scheme) (start : protocol.Beginning) (before : ℕ → Counts) where
   abbrev Reads : World → Log → Log → TxnId → ℕ → Type 0

@@ -69,7 +69,7 @@ module _ (E : TxnId → TxnId → Type 0) where
     whole = let w = p.whole in omega arith;
   }
 
-leads_other : (E F : TxnId → TxnId → Type 0) → ((u t : TxnId) → E u t → F u t) → (xs : List TxnId) (u t : TxnId) → LeadsAlong E u xs t → LeadsAlong F u xs t
+pub leads_other : (E F : TxnId → TxnId → Type 0) → ((u t : TxnId) → E u t → F u t) → (xs : List TxnId) (u t : TxnId) → LeadsAlong E u xs t → LeadsAlong F u xs t
 leads_other E F f [] u t l = f u t l
 leads_other E F f (x ∷ xs) u t l = (f u x l.0, leads_other E F f xs x t l.1)
 

@@ -39,7 +39,6 @@ use Rattle.roc_law_world.specs.World.{World, Beginning, begun_viewing, mark_deli
 use Rattle.roc_law_world.specs.Happens.{Outcome, IsSubmissionOf, IsReceived}
 use Rattle.roc_law_world.specs.Run.{Stepped, Transition, IsRunFrom, at_beginning, steps_on}
 use Rattle.roc_law_world.proofs.AnsweringRuns.{told_in_runs}
-use Rattle.roc_law_world.proofs.ViewsStay.{get-set_cases}
 use Rattle.roc_law_world.proofs.Stops.{Loses, less, by_losing}
 use Rattle.roc_law_world.proofs.WovenOrder.{is_view, tells_them}
 use Rattle.roc_two_files.specs.Home.{GoesHome}
@@ -47,6 +46,7 @@ use Rattle.roc_two_files.specs.Left.{AreDrained}
 use Rattle.roc_two_files.proofs.Drains.{nobody}
 use Rattle.roc_two_files.proofs.Late.{run_late}
 use Rattle.roc_two_files.proofs.Resting.{deliveries_rest, ticks_rest}
+use Rattle.roc_law_protocol.proofs.Changed.{get-set_cases}
 
 abbrev pub IsEnded : Msg → Type 0
 IsEnded (Ended coord mark) = Unit {0}

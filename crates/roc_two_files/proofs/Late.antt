@@ -25,8 +25,8 @@ use Rattle.roc_law_world.specs.World.{World, Beginning, begun_world, mark_delive
 use Rattle.roc_law_world.specs.Happens.{Outcome, IsReceived, IsSubmissionOf}
 use Rattle.roc_law_world.specs.Run.{Stepped, Transition, IsRunFrom, at_beginning, steps_on}
 use Rattle.roc_law_world.proofs.Numbered.{IsNumbered, numbered}
-use Rattle.roc_law_world.proofs.ViewsStay.{get-set_cases}
 use Rattle.roc_law_world.proofs.Stops.{stop_keeps}
+use Rattle.roc_law_protocol.proofs.Changed.{get-set_cases}
 
 module _ (plan : Plan) (b : Beginning) (coords : ℕ) where
   pub record IsLate (w : World) : Type 0 where

@@ -29,7 +29,7 @@ AreBetween outs = (out : Outgoing) → Has out outs → is_between out.msg ≡ t
 abbrev pub AreNoneBetween : List Outgoing → Type 0
 AreNoneBetween outs = (out : Outgoing) → Has out outs → is_between out.msg ≡ false
 
-of_append : (f : File) (xs ys : List Sealed) → of_file f (xs ++ ys) ≡ of_file f xs ++ of_file f ys
+pub of_append : (f : File) (xs ys : List Sealed) → of_file f (xs ++ ys) ≡ of_file f xs ++ of_file f ys
 of_append f xs ys = ap (map (λ (m : Sealed). m.message)) (filter_append (is_of f) xs ys) ∙ map-append (λ (m : Sealed). m.message) (filter (is_of f) xs) (filter (is_of f) ys)
 
 module _ (switched : Bool) (from : Node) where

@@ -18,9 +18,9 @@ use Rattle.roc_law_protocol.specs.declared.event.Seen.TheVariants as seen
 use Rattle.roc_law_world.specs.World.{World, Beginning, mark_delivered, at_coord, at_coord_tick}
 use Rattle.roc_law_world.specs.Happens.{Outcome, undecided, coordinated, IsReceived, Happens}
 use Rattle.roc_law_world.specs.Run.{Stepped, IsRunFrom}
-use Rattle.roc_law_world.proofs.Besides.{set_there}
 use Rattle.roc_two_files.specs.Left.{AreDrained}
 use Rattle.roc_two_files.proofs.Drains.{at_rest}
+use Rattle.roc_law_protocol.proofs.Stops.{set_there}
 
 module _ (plan : Plan) (s : CoordState) (no_pending : s.pending ≡ []) (no_views : s.views ≡ []) where
   -- it waits for nothing

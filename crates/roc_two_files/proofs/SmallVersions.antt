@@ -21,8 +21,8 @@ use Rattle.roc_law_world.specs.World.{World, Beginning, begun_viewing, mark_deli
 use Rattle.roc_law_world.specs.Happens.{Outcome, IsReceived, IsSubmissionOf}
 use Rattle.roc_law_world.specs.Run.{Stepped, Transition, IsRunFrom, at_beginning, steps_on}
 use Rattle.roc_law_world.proofs.Versions.{most, count_accesses}
-use Rattle.roc_law_world.proofs.ViewsStay.{get-set_cases}
 use Rattle.roc_law_world.proofs.Stops.{by_losing}
+use Rattle.roc_law_protocol.proofs.Changed.{get-set_cases}
 
 abbrev pub AreSmall : List Viewing → Type 0
 AreSmall viewing = (n : ℕ) (v : Viewing) → slice_get viewing n ≡ Some v → (x : Cell) → version v.versions x ≤ most

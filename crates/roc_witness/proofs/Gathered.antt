@@ -1,9 +1,9 @@
 -- Conflicts, by the columns of each piece
-use Rattle.std.proofs.Common.{◌≡◌, ℕ, ◌+◌, ◌*◌, ◌<◌, Bool, true, false, cond, ◌&&◌, ◌||◌, ◌==◌, List, [], ◌∷◌, ◌++◌, length, map, get_or, refl, sym, ap, subst, ◌∙◌, ◌%◌, inl, inr, arith}
+use Rattle.std.proofs.Common.{◌≡◌, ℕ, ◌+◌, ◌*◌, ◌<◌, Bool, false, ◌&&◌, ◌||◌, ◌==◌, List, [], ◌∷◌, ◌++◌, length, map, get_or, refl, sym, ap, subst, ◌∙◌, ◌%◌, inl, inr, arith}
 use Rattle.std.proofs.lemmas.List.FromFn.{get_or-map-range_with_len, length-map-range_with_len}
 use Rattle.std.specs.List.{AllByRecursion, list_any, range_with_len}
 use Rattle.roc_program.specs.Program.{Access, Expression, Statement, Get, Set, Out, Table, Piece, Workload}
-use Rattle.roc_program.specs.LookUps.{no_piece, no_procedure, no_table, is_view_in}
+use Rattle.roc_program.specs.LookUps.{no_piece, no_procedure, no_table}
 use Rattle.roc_program.specs.Pieces.{piece_of, pieces_in}
 use Rattle.roc_program.specs.Conflict.{is_same_column, collide, are_in_conflict, exposed}
 use Rattle.roc_program.specs.WellFormed.{IsTable, IsColumn, IsBody, ArePieces, IsProcedure, IsProgram, known_behind}
@@ -18,6 +18,7 @@ use Rattle.roc_witness.specs.declared.columns.Columns.{Columns}
 use Rattle.roc_witness.specs.Inner.Columns.{column_of, is_at, touches, writes, marks, gathered_columns, collides, AreColumns}
 use Rattle.roc_witness.specs.Inner.Table.{numbered_piece}
 use Rattle.roc_witness.proofs.Joined.{quotient, remainder}
+use Rattle.roc_conflict.proofs.Declared.{in_exposed}
 
 any_same : {A : Type 0} (p q : A → Bool) → ((x : A) → p x ≡ q x) → (xs : List A) → list_any p xs ≡ list_any q xs
 any_same p q same [] = refl
@@ -59,13 +60,6 @@ in_piece program formed id =
           (let one : IsProcedure program.tables (get_or program.procedures id.proc no_procedure) = all_at (IsProcedure program.tables) program.procedures id.proc no_procedure formed.procedures there.procedure in
           all_at (λ p. AllByRecursion (InTables program.tables) p.body) (pieces_in program id.proc) id.piece no_piece (in_pieces program.tables formed.tables (range_with_len 0 _) (pieces_in program id.proc) one.pieces) there.piece)
     ]
-
-in_exposed : (program : Workload) → IsProgram program → (id : PieceId) → AllByRecursion (InTables program.tables) (exposed program id)
-in_exposed program formed id = go (is_view_in program id.proc)
-  where
-    go : (b : Bool) → AllByRecursion (InTables program.tables) (cond b [] (piece_of program id).body)
-    go true = tt
-    go false = in_piece program formed id
 
 -- ---- a mark tells a collision
 

@@ -12,7 +12,6 @@ use Rattle.roc_law_protocol.specs.declared.event.Kept.TheVariants.{Lost, Sent}
 use Rattle.roc_law_protocol.specs.Happens.{ran_at}
 use Rattle.roc_law_protocol.proofs.Changed.{get-set_here}
 use Rattle.roc_law_world.specs.World.{looks_in}
-use Rattle.roc_law_world.proofs.Besides.{set_there}
 use Rattle.roc_epoch.specs.declared.next.Next.{Next}
 use Rattle.roc_two_files.specs.Sealed.{Sealed}
 use Rattle.roc_grown.specs.declared.handled.GrownHandled.{GrownHandled}
@@ -28,6 +27,7 @@ use Rattle.roc_growth.specs.Happens.{started_again, IsNext}
 use Rattle.roc_world.specs.Inner.Messages.{Messages}
 use Rattle.roc_world.specs.Inner.Nodes.{ServerTakes, CoordTakes, CoordDrains, CoordTicks, ServerTicks, ServerRestarts}
 use Rattle.roc_world.specs.Inner.Parts.{Leads, TakesCut, StartsAgain}
+use Rattle.roc_law_protocol.proofs.Stops.{set_there}
 
 -- a server that starts again and sends nothing
 rest_is : (w : GrownWorld) (shard : ℕ) (s : GrownServerState) → at_server w shard (taken_at (restarted s) []) ≡ record w { servers = slice_set w.servers shard (restarted s) }

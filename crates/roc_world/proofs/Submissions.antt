@@ -14,7 +14,6 @@ use Rattle.roc_coord.specs.Submit as submit
 use Rattle.roc_coord.specs.Submit.{Submission, refusal_of, refused_or_accepted, after_submit}
 use Rattle.roc_audit.specs.declared.entry.Entry.TheVariants as entry
 use Rattle.roc_law_world.specs.World.{looks_in}
-use Rattle.roc_law_world.proofs.Besides.{set_there}
 use Rattle.roc_epoch.specs.declared.next.Next.{Next}
 use Rattle.roc_epoch.specs.Files.{last_plan, own_plan, IsNextOf}
 use Rattle.roc_grown.specs.declared.handled.GrownFault.{GrownFault}
@@ -30,6 +29,7 @@ use Rattle.roc_growth.specs.Run.{IsEventOf}
 use Rattle.roc_growth.specs.Fits.{FitsGrown}
 use Rattle.roc_world.specs.Inner.Nodes.{CoordSubmits}
 use Rattle.roc_world.specs.Inner.Parts.{Leads}
+use Rattle.roc_law_protocol.proofs.Stops.{set_there}
 
 -- a submission that is refused leaves a coordinator of one file as it was
 core_keeps : (plan : Plan) (s : CoordState) (proc : ℕ) (args : List ℤ) (why : GrownFault) → Err why ≡ answered_so (after_submit plan s proc args).answer → (after_submit plan s proc args).state ≡ s

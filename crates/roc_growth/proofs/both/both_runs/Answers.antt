@@ -1,8 +1,9 @@
 use Rattle.roc_law_world.specs.World.{first_beginning}
 use Rattle.roc_epoch.specs.Files.{last_plan}
 use Rattle.roc_two_files.specs.Left.{left_behind}
-use Rattle.roc_growth.proofs.Halves.{last_accepted, last_grows}
+use Rattle.roc_growth.proofs.Halves.{last_grows}
 use Rattle.roc_growth.proofs.both.both_runs.Goals as goal
+use Rattle.roc_growth.proofs.Phases.{last_accepted}
 
 pub returns : goal.returns
 returns c plan next coords steps w accepted of run =
