@@ -5,7 +5,7 @@ use roc_lang_parse::parse;
 use roc_lang_resolve::resolve;
 use roc_program::Workload;
 use std::alloc::Global;
-use std::test::Fail;
+use std::process::Abort;
 
 // Two accounts on two shards, of which a transfer takes from one and gives to the other.
 const TRANSFER: &[u8] = b"shards 2;
@@ -28,19 +28,19 @@ proc swap(n) {
 }
 ";
 
-fn workload_of(alloc: Global, text: &[u8]) -> Result<Workload, Fail> {
-    let source = parse(alloc, text)?;
-    Ok(resolve(alloc, source)?)
+fn workload_of(rt: &impl Abort, alloc: Global, text: &[u8]) -> Workload {
+    let source = parse(alloc, text).expect(rt, "a text");
+    resolve(alloc, source).expect(rt, "a workload")
 }
 
 /// The workload of transfers: `pay` is its procedure 0.
-pub(crate) fn transfers(alloc: Global) -> Result<Workload, Fail> {
-    workload_of(alloc, TRANSFER)
+pub(crate) fn transfers(rt: &impl Abort, alloc: Global) -> Workload {
+    workload_of(rt, alloc, TRANSFER)
 }
 
 /// The workload of a merged group: `swap` is its procedure 0.
-pub(crate) fn merged(alloc: Global) -> Result<Workload, Fail> {
-    workload_of(alloc, MERGED)
+pub(crate) fn merged(rt: &impl Abort, alloc: Global) -> Workload {
+    workload_of(rt, alloc, MERGED)
 }
 
 /// A submission of procedure 0, or an answer, by coordinator; each submits once.
@@ -50,30 +50,34 @@ pub(crate) enum Said {
     Answers(u16, &'static [i64]),
 }
 
-/// The transaction of a coordinator.
-pub(crate) fn txn(coord: u16) -> TxnId {
+fn txn(coord: u16) -> TxnId {
     TxnId { coord, seq: 0 }
 }
 
-/// The history of what was said.
-pub(crate) fn history_of(alloc: Global, said: &[Said]) -> Result<Vec<Entry>, Fail> {
-    let mut history = Vec::new(alloc);
-    for one in said {
-        history.push(entry_of(alloc, *one)?)?;
-    }
-    Ok(history)
+fn nums_of(rt: &impl Abort, alloc: Global, numbers: &[i64]) -> Nums {
+    Nums::from_slice(alloc, numbers).expect(rt, "memory")
 }
 
-fn entry_of(alloc: Global, said: Said) -> Result<Entry, Fail> {
+fn entry_of(rt: &impl Abort, alloc: Global, said: Said) -> Entry {
     match said {
-        Said::Submits(coord, args) => Ok(Entry::Submitted {
+        Said::Submits(coord, args) => Entry::Submitted {
             id: txn(coord),
             proc: 0,
-            args: Nums::from_slice(alloc, args)?,
-        }),
-        Said::Answers(coord, reply) => Ok(Entry::Answered {
+            args: nums_of(rt, alloc, args),
+        },
+        Said::Answers(coord, reply) => Entry::Answered {
             id: txn(coord),
-            reply: Nums::from_slice(alloc, reply)?,
-        }),
+            reply: nums_of(rt, alloc, reply),
+        },
     }
+}
+
+/// The history of what was said.
+pub(crate) fn history_of(rt: &impl Abort, alloc: Global, said: &[Said]) -> Vec<Entry> {
+    let mut history = Vec::new(alloc);
+    for one in said {
+        let done = history.push(entry_of(rt, alloc, *one));
+        done.expect(rt, "memory");
+    }
+    history
 }

@@ -10,4 +10,6 @@ mod logs;
 #[cfg(test)]
 mod precedence;
 #[cfg(test)]
+mod same;
+#[cfg(test)]
 mod witnesses;

@@ -1,55 +1,49 @@
 //! Least orders and least cycles of pairs.
+use crate::same::same;
 use roc_base::TxnId;
 use roc_precedence::{Pair, least_cycle, least_order};
 use std::alloc::Global;
 use std::process::Abort;
-use std::test::Fail;
 
 fn txn(seq: u32) -> TxnId {
     TxnId { coord: 0, seq }
 }
 
 // The ids of these numbers.
-fn ids_of(alloc: Global, seqs: &[u32]) -> Result<Vec<TxnId>, Fail> {
+fn ids_of(rt: &impl Abort, alloc: Global, seqs: &[u32]) -> Vec<TxnId> {
     let mut ids = Vec::new(alloc);
     for seq in seqs {
-        ids.push(txn(*seq))?;
+        ids.push(txn(*seq)).expect(rt, "memory");
     }
-    Ok(ids)
+    ids
 }
 
 // The pairs of these numbers, the earlier one first.
-fn pairs_of(alloc: Global, seqs: &[(u32, u32)]) -> Result<Vec<Pair>, Fail> {
+fn pairs_of(rt: &impl Abort, alloc: Global, seqs: &[(u32, u32)]) -> Vec<Pair> {
     let mut pairs = Vec::new(alloc);
     for (earlier, later) in seqs {
-        pairs.push(Pair {
+        let pair = Pair {
             later: txn(*later),
             earlier: txn(*earlier),
-        })?;
+        };
+        pairs.push(pair).expect(rt, "memory");
     }
-    Ok(pairs)
+    pairs
 }
 
-fn found(alloc: Global, seqs: &[u32], pairs: &[(u32, u32)]) -> Result<Option<Vec<TxnId>>, Fail> {
-    let ids = ids_of(alloc, seqs)?;
-    let pairs = pairs_of(alloc, pairs)?;
-    Ok(least_order(alloc, &ids, &pairs)?)
+fn are_ids(rt: &impl Abort, found: &Option<Vec<TxnId>>, wanted: &[u32]) {
+    match found {
+        None => panic!(rt; "none is found"),
+        Some(ids) => {
+            same(rt, "how many", &ids.len(), &wanted.len());
+            for (id, seq) in ids.iter().zip(wanted) {
+                same(rt, "an id", id, &txn(*seq));
+            }
+        }
+    }
 }
 
-// The ids of these numbers have this order.
-fn is_ordered(
-    rt: &impl Abort,
-    alloc: Global,
-    seqs: &[u32],
-    pairs: &[(u32, u32)],
-    wanted: &[u32],
-) -> Result<(), Fail> {
-    let order = found(alloc, seqs, pairs)?.ok_or("an order")?;
-    let wanted = ids_of(alloc, wanted)?;
-    assert_eq!(rt; order.as_slice(), wanted.as_slice());
-    Ok(())
-}
-
+// Ids, pairs of them, and the order or the cycle that is wanted.
 type Case = (&'static [u32], &'static [(u32, u32)], &'static [u32]);
 
 // By id where nothing is said; against the ids where it is; the least that is free first; pairs out of the set and repeated ids count
@@ -61,46 +55,44 @@ const CASES: [Case; 4] = [
     (&[2, 1, 2], &[(2, 5), (5, 1), (2, 1)], &[2, 1]),
 ];
 
-#[test]
-fn orders_keep_pairs(rt: HostRuntime) -> Result<(), Fail> {
-    for (seqs, pairs, wanted) in CASES {
-        is_ordered(&rt, rt.alloc(), seqs, pairs, wanted)?;
+fn order(rt: &impl Abort, alloc: Global, case: &Case) -> Option<Vec<TxnId>> {
+    let ids = ids_of(rt, alloc, case.0);
+    let pairs = pairs_of(rt, alloc, case.1);
+    least_order(alloc, &ids, &pairs).expect(rt, "memory")
+}
+
+fn are_ordered(rt: &impl Abort, alloc: Global, cases: &[Case]) {
+    for case in cases {
+        are_ids(rt, &order(rt, alloc, case), case.2);
     }
-    Ok(())
+}
+
+#[test]
+fn orders_keep_pairs(rt: HostRuntime) {
+    are_ordered(&rt, rt.alloc(), &CASES);
 }
 
 // Cycles of three, and of one.
-const CYCLES: [(&[u32], &[(u32, u32)]); 2] = [
-    (&[1, 2, 3, 4], &[(1, 2), (2, 3), (3, 1)]),
-    (&[1, 2], &[(2, 2)]),
+const CYCLES: [Case; 2] = [
+    (&[1, 2, 3, 4], &[(1, 2), (2, 3), (3, 1)], &[]),
+    (&[1, 2], &[(2, 2)], &[]),
 ];
 
-#[test]
-fn cycles_have_no_order(rt: HostRuntime) -> Result<(), Fail> {
-    for (seqs, pairs) in CYCLES {
-        assert!(rt; found(rt.alloc(), seqs, pairs)?.is_none());
+fn have_no_order(rt: &impl Abort, alloc: Global, cases: &[Case]) {
+    for case in cases {
+        assert!(rt; order(rt, alloc, case).is_none());
     }
-    Ok(())
 }
 
-fn cycle(alloc: Global, seqs: &[u32], pairs: &[(u32, u32)]) -> Result<Option<Vec<TxnId>>, Fail> {
-    let ids = ids_of(alloc, seqs)?;
-    let pairs = pairs_of(alloc, pairs)?;
-    Ok(least_cycle(alloc, &ids, &pairs)?)
+#[test]
+fn cycles_have_no_order(rt: HostRuntime) {
+    have_no_order(&rt, rt.alloc(), &CYCLES);
 }
 
-// The least cycle of the ids of these numbers is this.
-fn is_cycle(
-    rt: &impl Abort,
-    alloc: Global,
-    seqs: &[u32],
-    pairs: &[(u32, u32)],
-    wanted: &[u32],
-) -> Result<(), Fail> {
-    let cycle = cycle(alloc, seqs, pairs)?.ok_or("a cycle")?;
-    let wanted = ids_of(alloc, wanted)?;
-    assert_eq!(rt; cycle.as_slice(), wanted.as_slice());
-    Ok(())
+fn cycle(rt: &impl Abort, alloc: Global, case: &Case) -> Option<Vec<TxnId>> {
+    let ids = ids_of(rt, alloc, case.0);
+    let pairs = pairs_of(rt, alloc, case.1);
+    least_cycle(alloc, &ids, &pairs).expect(rt, "memory")
 }
 
 // One, two and three ids; of two of one length the one with the lower first, or else the lower second; a shorter one behind a longer;
@@ -124,18 +116,24 @@ const LEAST_CYCLES: [Case; 8] = [
     ),
 ];
 
-#[test]
-fn least_cycles_are_told(rt: HostRuntime) -> Result<(), Fail> {
-    for (seqs, pairs, wanted) in LEAST_CYCLES {
-        is_cycle(&rt, rt.alloc(), seqs, pairs, wanted)?;
+fn are_cycles(rt: &impl Abort, alloc: Global, cases: &[Case]) {
+    for case in cases {
+        are_ids(rt, &cycle(rt, alloc, case), case.2);
     }
-    Ok(())
 }
 
 #[test]
-fn orders_have_no_cycle(rt: HostRuntime) -> Result<(), Fail> {
-    for (seqs, pairs, _) in CASES {
-        assert!(rt; cycle(rt.alloc(), seqs, pairs)?.is_none());
+fn least_cycles_are_told(rt: HostRuntime) {
+    are_cycles(&rt, rt.alloc(), &LEAST_CYCLES);
+}
+
+fn have_no_cycle(rt: &impl Abort, alloc: Global, cases: &[Case]) {
+    for case in cases {
+        assert!(rt; cycle(rt, alloc, case).is_none());
     }
-    Ok(())
+}
+
+#[test]
+fn orders_have_no_cycle(rt: HostRuntime) {
+    have_no_cycle(&rt, rt.alloc(), &CASES);
 }

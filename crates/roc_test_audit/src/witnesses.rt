@@ -1,12 +1,16 @@
 //! Serial witnesses.
-use crate::histories::{Said, history_of, merged, transfers, txn};
+use crate::histories::{Said, history_of, merged, transfers};
 use roc_audit::Entry;
 use roc_audit_witness::{is_witness, names_procedures};
 use roc_base::{NoMemory, TxnId};
 use roc_program::Workload;
 use std::alloc::Global;
 use std::process::Abort;
-use std::test::Fail;
+
+// The transactions of the coordinators 0 and 1.
+const FIRST: TxnId = TxnId { coord: 0, seq: 0 };
+
+const SECOND: TxnId = TxnId { coord: 1, seq: 0 };
 
 // Two transfers that cross: that of coordinator 1 ran first. A reply is what the two accounts held.
 const CROSSING: [Said; 4] = [
@@ -35,32 +39,6 @@ const APART: [Said; 4] = [
     Said::Answers(1, &[50, 50]),
 ];
 
-// Whether the transactions of coordinators in this order are a serial witness is as wanted.
-fn is_judged(
-    rt: &impl Abort,
-    alloc: Global,
-    workload: &Workload,
-    said: &[Said],
-    order: &[TxnId],
-    wanted: bool,
-) -> Result<(), Fail> {
-    let history = history_of(alloc, said)?;
-    judges(rt, alloc, workload, &history, order, wanted)
-}
-
-fn judges(
-    rt: &impl Abort,
-    alloc: Global,
-    workload: &Workload,
-    history: &[Entry],
-    order: &[TxnId],
-    wanted: bool,
-) -> Result<(), Fail> {
-    let found = judged(alloc, workload, history, order)?.ok_or("procedures")?;
-    assert_eq!(rt; found, wanted);
-    Ok(())
-}
-
 // Whether the order is a serial witness, where the history names procedures.
 fn judged(
     alloc: Global,
@@ -75,34 +53,54 @@ fn judged(
     Ok(None)
 }
 
-#[test]
-fn crossing_transfers_have_one_order(rt: HostRuntime) -> Result<(), Fail> {
-    let alloc = rt.alloc();
-    let workload = transfers(alloc)?;
-    is_judged(&rt, alloc, &workload, &CROSSING, &[txn(1), txn(0)], true)?;
-    is_judged(&rt, alloc, &workload, &CROSSING, &[txn(0), txn(1)], false)
+// What was said, an order of the transactions, and whether that is a serial witness.
+type Case = (&'static [Said], &'static [TxnId], bool);
+
+fn is_judged(rt: &impl Abort, alloc: Global, workload: &Workload, case: &Case) {
+    let history = history_of(rt, alloc, case.0);
+    let found = judged(alloc, workload, &history, case.1).expect(rt, "memory");
+    assert!(rt; found == Some(case.2));
 }
 
-#[test]
-fn merged_groups_have_one_order(rt: HostRuntime) -> Result<(), Fail> {
-    let alloc = rt.alloc();
-    let workload = merged(alloc)?;
-    is_judged(&rt, alloc, &workload, &SWAPS, &[txn(1), txn(0)], true)?;
-    is_judged(&rt, alloc, &workload, &SWAPS, &[txn(0), txn(1)], false)
+fn are_judged(rt: &impl Abort, alloc: Global, workload: &Workload, cases: &[Case]) {
+    for case in cases {
+        is_judged(rt, alloc, workload, case);
+    }
 }
 
-#[test]
-fn wrong_replies_and_missing_ones_are_refused(rt: HostRuntime) -> Result<(), Fail> {
-    let alloc = rt.alloc();
-    let workload = transfers(alloc)?;
-    is_judged(&rt, alloc, &workload, &WRONG, &[txn(0)], false)?;
-    is_judged(&rt, alloc, &workload, &CROSSING, &[txn(1)], false)
-}
+const CROSSED: [Case; 2] = [
+    (&CROSSING, &[SECOND, FIRST], true),
+    (&CROSSING, &[FIRST, SECOND], false),
+];
 
 #[test]
-fn real_time_is_kept(rt: HostRuntime) -> Result<(), Fail> {
-    let alloc = rt.alloc();
-    let workload = transfers(alloc)?;
-    is_judged(&rt, alloc, &workload, &APART, &[txn(0), txn(1)], true)?;
-    is_judged(&rt, alloc, &workload, &APART, &[txn(1), txn(0)], false)
+fn crossing_transfers_have_one_order(rt: HostRuntime) {
+    are_judged(&rt, rt.alloc(), &transfers(&rt, rt.alloc()), &CROSSED);
+}
+
+const MERGED: [Case; 2] = [
+    (&SWAPS, &[SECOND, FIRST], true),
+    (&SWAPS, &[FIRST, SECOND], false),
+];
+
+#[test]
+fn merged_groups_have_one_order(rt: HostRuntime) {
+    are_judged(&rt, rt.alloc(), &merged(&rt, rt.alloc()), &MERGED);
+}
+
+const REFUSED: [Case; 2] = [(&WRONG, &[FIRST], false), (&CROSSING, &[SECOND], false)];
+
+#[test]
+fn wrong_replies_and_missing_ones_are_refused(rt: HostRuntime) {
+    are_judged(&rt, rt.alloc(), &transfers(&rt, rt.alloc()), &REFUSED);
+}
+
+const TIMED: [Case; 2] = [
+    (&APART, &[FIRST, SECOND], true),
+    (&APART, &[SECOND, FIRST], false),
+];
+
+#[test]
+fn real_time_is_kept(rt: HostRuntime) {
+    are_judged(&rt, rt.alloc(), &transfers(&rt, rt.alloc()), &TIMED);
 }

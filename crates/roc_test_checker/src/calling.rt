@@ -1,9 +1,9 @@
 //! How a program of one's own asks the checker. `crates/roc_check/CALLING.md` shows most of it.
+use crate::same::same;
 use roc_check::{CheckFault, check};
 use roc_plan::{Class, Plan};
 use std::alloc::Global;
 use std::process::Abort;
-use std::test::Fail;
 
 // How many groups of the plan's procedures run when they start: the others wait for a commit.
 fn immediate_groups(plan: &Plan) -> u64 {
@@ -44,25 +44,29 @@ fn told(alloc: Global, text: &[u8]) -> &'static str {
     }
 }
 
-#[test]
-fn a_text_is_judged(rt: HostRuntime) -> Result<(), Fail> {
-    let cases: [(&[u8], &str); 4] = [
-        (
-            b"shards 1;\ntable t { x }\nproc f() { later a at 0 { set t[0].x = 1; } }\n",
-            "every group may wait",
-        ),
-        (
-            b"shards 1;\ntable t { x }\nproc f() { now a at 0 { set t[0].x = 1; } }\n",
-            "some group runs when it starts",
-        ),
-        (b"shards 1;\ntable t { x\n", "the text is no workload"),
-        (
-            b"shards 2;\ntable t { x }\nproc f() { now a at 0 { set t[0].x = 1; } now b at 1 { set t[0].x = 2; } }\n",
-            "two pieces may not be cut apart",
-        ),
-    ];
-    for (text, wanted) in cases {
-        assert_eq!(rt; told(rt.alloc(), text), wanted);
+const TOLD: [(&[u8], &str); 4] = [
+    (
+        b"shards 1;\ntable t { x }\nproc f() { later a at 0 { set t[0].x = 1; } }\n",
+        "every group may wait",
+    ),
+    (
+        b"shards 1;\ntable t { x }\nproc f() { now a at 0 { set t[0].x = 1; } }\n",
+        "some group runs when it starts",
+    ),
+    (b"shards 1;\ntable t { x\n", "the text is no workload"),
+    (
+        b"shards 2;\ntable t { x }\nproc f() { now a at 0 { set t[0].x = 1; } now b at 1 { set t[0].x = 2; } }\n",
+        "two pieces may not be cut apart",
+    ),
+];
+
+fn are_told(rt: &impl Abort, alloc: Global, cases: &[(&[u8], &str)]) {
+    for case in cases {
+        same(rt, "what is told", &told(alloc, case.0), &case.1);
     }
-    Ok(())
+}
+
+#[test]
+fn a_text_is_judged(rt: HostRuntime) {
+    are_told(&rt, rt.alloc(), &TOLD);
 }

@@ -1,13 +1,12 @@
 //! Shortest cycles through two pieces, as lists of vertices.
+use crate::plans::workload;
+use crate::same::same;
 use roc_conflict::promote;
-use roc_lang_parse::parse;
-use roc_lang_resolve::resolve;
 use roc_program::PieceId;
 use roc_scgraph::{Instance, Vertex};
 use roc_witness::shortest;
 use std::alloc::Global;
 use std::process::Abort;
-use std::test::Fail;
 
 /// Two transfers that cross.
 const TRANSFERS: &[u8] = b"shards 2;
@@ -41,56 +40,51 @@ proc pay(f,t,n) {
 }
 ";
 
-// The shortest cycle through two pieces of the first procedure, each vertex by procedure, piece and instance.
-fn cycle(alloc: Global, text: &[u8], p: u16, q: u16) -> Result<Option<Vec<(u16, u16, u8)>>, Fail> {
-    let workload = resolve(alloc, parse(alloc, text)?)?;
-    let classes = promote(alloc, &workload)?;
+// The shortest cycle through two pieces of the first procedure, or nothing.
+fn cycle(rt: &impl Abort, alloc: Global, text: &[u8], p: u16, q: u16) -> Option<Vec<Vertex>> {
+    let workload = workload(rt, alloc, text);
+    let classes = promote(alloc, &workload).expect(rt, "classes");
     let p = PieceId { proc: 0, piece: p };
     let q = PieceId { proc: 0, piece: q };
-    match shortest(alloc, &workload, &classes, p, q)? {
-        Some(cycle) => Ok(Some(shown(alloc, &cycle)?)),
-        None => Ok(None),
+    shortest(alloc, &workload, &classes, p, q).expect(rt, "memory")
+}
+
+// A vertex by procedure, piece and instance.
+fn shown(vertex: &Vertex) -> (u16, u16, u8) {
+    match vertex.instance {
+        Instance::First => (vertex.proc, vertex.piece, 1),
+        Instance::Second => (vertex.proc, vertex.piece, 2),
     }
 }
 
-fn shown(alloc: Global, cycle: &[Vertex]) -> Result<Vec<(u16, u16, u8)>, Fail> {
-    let mut all = Vec::new(alloc);
-    for vertex in cycle {
-        let instance = match vertex.instance {
-            Instance::First => 1,
-            Instance::Second => 2,
-        };
-        all.push((vertex.proc, vertex.piece, instance))?;
+fn are_vertices(rt: &impl Abort, cycle: &[Vertex], wanted: &[(u16, u16, u8)]) {
+    same(rt, "the length", &cycle.len(), &wanted.len());
+    for (vertex, wanted) in cycle.iter().zip(wanted) {
+        same(rt, "a vertex", &shown(vertex), wanted);
     }
-    Ok(all)
 }
 
-fn check(
-    rt: &impl Abort,
-    alloc: Global,
-    text: &[u8],
-    (p, q): (u16, u16),
-    wanted: &[(u16, u16, u8)],
-) -> Result<(), Fail> {
-    let found = cycle(alloc, text, p, q)?;
-    let found = found.unwrap_or(Vec::new(alloc));
-    assert_eq!(rt; found.as_slice(), wanted);
-    Ok(())
+// The shortest cycle through the first two pieces.
+fn is_cycle(rt: &impl Abort, alloc: Global, text: &[u8], wanted: &[(u16, u16, u8)]) {
+    match &cycle(rt, alloc, text, 0, 1) {
+        None => same(rt, "no cycle", &wanted.len(), &0),
+        Some(cycle) => are_vertices(rt, cycle, wanted),
+    }
 }
 
 #[test]
-fn transfers_cross(rt: HostRuntime) -> Result<(), Fail> {
+fn transfers_cross(rt: HostRuntime) {
     let wanted = [(0, 0, 1), (0, 0, 2), (0, 1, 1)];
-    check(&rt, rt.alloc(), TRANSFERS, (0, 1), wanted.as_slice())
+    is_cycle(&rt, rt.alloc(), TRANSFERS, &wanted);
 }
 
 #[test]
-fn deferred_transfers_have_no_cycle(rt: HostRuntime) -> Result<(), Fail> {
-    check(&rt, rt.alloc(), DEFERRED, (0, 1), &[])
+fn deferred_transfers_have_no_cycle(rt: HostRuntime) {
+    is_cycle(&rt, rt.alloc(), DEFERRED, &[]);
 }
 
 #[test]
-fn readers_meet_through_their_writers(rt: HostRuntime) -> Result<(), Fail> {
+fn readers_meet_through_their_writers(rt: HostRuntime) {
     let wanted = [
         (0, 0, 1),
         (1, 0, 1),
@@ -99,13 +93,10 @@ fn readers_meet_through_their_writers(rt: HostRuntime) -> Result<(), Fail> {
         (2, 0, 1),
         (0, 1, 1),
     ];
-    check(&rt, rt.alloc(), READERS, (0, 1), wanted.as_slice())
+    is_cycle(&rt, rt.alloc(), READERS, &wanted);
 }
 
 #[test]
-fn a_piece_without_conflicts_lies_on_a_cycle(rt: HostRuntime) -> Result<(), Fail> {
-    let alloc = rt.alloc();
-    let found = cycle(alloc, READERS, 0, 2)?;
-    assert_eq!(rt; found.is_some(), true);
-    Ok(())
+fn a_piece_without_conflicts_lies_on_a_cycle(rt: HostRuntime) {
+    assert!(rt; cycle(&rt, rt.alloc(), READERS, 0, 2).is_some());
 }

@@ -1,10 +1,10 @@
 //! Whether a workload is a grown one of another, and what is wrong first.
 use crate::plans::plan_of;
+use crate::same::same;
 use roc_epoch::{GrowthFault, extends};
 use roc_plan::Plan;
 use std::alloc::Global;
 use std::process::Abort;
-use std::test::Fail;
 
 /// The workload that others grow from, or do not.
 const OLD: &[u8] = b"shards 2; table t { x, y } init t[0,1].x = 5;
@@ -79,22 +79,19 @@ fn fault_of(old: &Plan, new: &Plan) -> Option<GrowthFault> {
     }
 }
 
-fn are_told(rt: &impl Abort, alloc: Global, old: &Plan, cases: &[Case]) -> Result<(), Fail> {
+fn are_told(rt: &impl Abort, alloc: Global, old: &Plan, cases: &[Case]) {
     for case in cases {
-        let new = plan_of(alloc, case.new)?;
-        assert_eq!(rt; fault_of(old, &new), case.fault);
+        let found = fault_of(old, &plan_of(rt, alloc, case.new));
+        same(rt, "the fault", &found, &case.fault);
     }
-    Ok(())
 }
 
 #[test]
-fn grown_workloads_are_taken(rt: HostRuntime) -> Result<(), Fail> {
-    let old = plan_of(rt.alloc(), OLD)?;
-    are_told(&rt, rt.alloc(), &old, &GROWN)
+fn grown_workloads_are_taken(rt: HostRuntime) {
+    are_told(&rt, rt.alloc(), &plan_of(&rt, rt.alloc(), OLD), &GROWN);
 }
 
 #[test]
-fn faults_of_growth_are_told(rt: HostRuntime) -> Result<(), Fail> {
-    let old = plan_of(rt.alloc(), OLD)?;
-    are_told(&rt, rt.alloc(), &old, &FAULTY)
+fn faults_of_growth_are_told(rt: HostRuntime) {
+    are_told(&rt, rt.alloc(), &plan_of(&rt, rt.alloc(), OLD), &FAULTY);
 }

@@ -11,3 +11,5 @@ mod growth;
 mod merging;
 #[cfg(test)]
 mod plans;
+#[cfg(test)]
+mod same;

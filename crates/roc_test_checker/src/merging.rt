@@ -1,12 +1,12 @@
 //! Merged groups, and why pieces cannot be merged.
+use crate::plans::workload;
+use crate::same::{same, same_items};
 use roc_conflict::promote;
-use roc_lang_parse::parse;
-use roc_lang_resolve::resolve;
 use roc_merge::{Refusal, merge};
 use roc_merge_groups::Groups;
 use roc_program::PieceId;
 use std::alloc::Global;
-use std::test::Fail;
+use std::process::Abort;
 
 /// Two contended pieces at one place, and one at another that no path joins with them.
 const BESIDE: &[u8] = b"shards 2;
@@ -37,32 +37,35 @@ proc f(a,b) {
 }
 ";
 
-fn merged(alloc: Global, text: &[u8]) -> Result<Result<Groups, Refusal>, Fail> {
-    let workload = resolve(alloc, parse(alloc, text)?)?;
-    let classes = promote(alloc, &workload)?;
-    Ok(merge(alloc, &workload, &classes))
+fn merged(rt: &impl Abort, alloc: Global, text: &[u8]) -> Result<Groups, Refusal> {
+    let workload = workload(rt, alloc, text);
+    let classes = promote(alloc, &workload).expect(rt, "classes");
+    merge(alloc, &workload, &classes)
 }
 
 fn piece(piece: u16) -> PieceId {
     PieceId { proc: 0, piece }
 }
 
-#[test]
-fn contended_pieces_are_one_group(rt: HostRuntime) -> Result<(), Fail> {
-    match merged(rt.alloc(), BESIDE)? {
-        Ok(groups) => {
-            assert_eq!(rt; groups.group_count(0), 2);
-            assert_eq!(rt; groups.pieces(0, 0), [0, 2].as_slice());
-            assert_eq!(rt; groups.pieces(0, 1), [1].as_slice());
-        }
-        Err(_) => panic!(rt; "refused"),
-    }
-    Ok(())
+fn are_two(rt: &impl Abort, groups: &Groups) {
+    assert!(rt; groups.group_count(0) == 2);
+    same_items(rt, "the first", groups.pieces(0, 0), &[0, 2]);
+    same_items(rt, "the second", groups.pieces(0, 1), &[1]);
 }
 
 #[test]
-fn refusals_name_their_pieces(rt: HostRuntime) -> Result<(), Fail> {
-    let alloc = rt.alloc();
+fn contended_pieces_are_one_group(rt: HostRuntime) {
+    let groups = merged(&rt, rt.alloc(), BESIDE).expect(&rt, "refused");
+    are_two(&rt, &groups);
+}
+
+fn is_refused(rt: &impl Abort, alloc: Global, text: &[u8], wanted: Refusal) {
+    let found = merged(rt, alloc, text).err();
+    same(rt, "a refusal", &found, &Some(wanted));
+}
+
+#[test]
+fn refusals_name_their_pieces(rt: HostRuntime) {
     let apart = Refusal::Apart {
         p: piece(0),
         q: piece(1),
@@ -72,7 +75,6 @@ fn refusals_name_their_pieces(rt: HostRuntime) -> Result<(), Fail> {
         q: piece(2),
         x: piece(1),
     };
-    assert_eq!(rt; merged(alloc, CROSSING)?.err(), Some(apart));
-    assert_eq!(rt; merged(alloc, BETWEEN)?.err(), Some(blocked));
-    Ok(())
+    is_refused(&rt, rt.alloc(), CROSSING, apart);
+    is_refused(&rt, rt.alloc(), BETWEEN, blocked);
 }

@@ -1,4 +1,5 @@
 //! Plans of several groups, and groups that are no plan's.
+use crate::same::{same, same_items};
 use roc_base::{Nums, Shard};
 use roc_conflict::promote;
 use roc_lang_parse::parse;
@@ -10,7 +11,6 @@ use roc_plan_make::{PlanFault, make_plan};
 use roc_program::Workload;
 use std::alloc::Global;
 use std::process::Abort;
-use std::test::Fail;
 
 /// m and n are contended, and l takes what m binds.
 const TWO_GROUPS: &[u8] = b"shards 4;
@@ -22,72 +22,80 @@ proc f(p, q) {
 }
 ";
 
-fn workload(alloc: Global, text: &[u8]) -> Result<Workload, Fail> {
-    Ok(resolve(alloc, parse(alloc, text)?)?)
-}
-
-fn plan(alloc: Global) -> Result<Plan, Fail> {
-    plan_of(alloc, TWO_GROUPS)
+/// The workload of a text that is one.
+pub(crate) fn workload(rt: &impl Abort, alloc: Global, text: &[u8]) -> Workload {
+    let source = parse(alloc, text).expect(rt, "a text");
+    resolve(alloc, source).expect(rt, "a workload")
 }
 
 /// The plan of a text that has one.
-pub fn plan_of(alloc: Global, text: &[u8]) -> Result<Plan, Fail> {
-    let workload = workload(alloc, text)?;
-    let classes = promote(alloc, &workload)?;
-    let groups = merge(alloc, &workload, &classes)?;
-    Ok(make_plan(alloc, workload, classes, groups)?)
+pub(crate) fn plan_of(rt: &impl Abort, alloc: Global, text: &[u8]) -> Plan {
+    let workload = workload(rt, alloc, text);
+    let classes = promote(alloc, &workload).expect(rt, "classes");
+    let groups = merge(alloc, &workload, &classes).expect(rt, "groups");
+    make_plan(alloc, workload, classes, groups).expect(rt, "a plan")
 }
 
 fn has_two_groups(rt: &impl Abort, plan: &Plan) {
-    assert_eq!(rt; plan.procedures(), 1);
-    assert_eq!(rt; plan.groups(0), 2);
-    assert_eq!(rt; plan.class(0, 0), Class::Immediate);
-    assert_eq!(rt; plan.class(0, 1), Class::Deferrable);
-    assert_eq!(rt; plan.pieces(0, 0), [0, 1].as_slice());
-    assert_eq!(rt; (plan.bound(0, 0), plan.bound(0, 1)), (1, 0));
-    assert_eq!(rt; plan.outs(0, 1), [1].as_slice());
-    assert_eq!(rt; plan.inputs(0, 1), [Input { group: 0, at: 0 }].as_slice());
+    assert!(rt; plan.procedures() == 1 && plan.groups(0) == 2);
+    same(rt, "the first class", &plan.class(0, 0), &Class::Immediate);
+    let second = plan.class(0, 1);
+    same(rt, "the second class", &second, &Class::Deferrable);
+    same_items(rt, "the pieces", plan.pieces(0, 0), &[0, 1]);
+    assert!(rt; plan.bound(0, 0) == 1 && plan.bound(0, 1) == 0);
+    same_items(rt, "the outs", plan.outs(0, 1), &[1]);
+    let input = Input { group: 0, at: 0 };
+    same_items(rt, "the inputs", plan.inputs(0, 1), &[input]);
 }
 
 #[test]
-fn readers_of_two_groups(rt: HostRuntime) -> Result<(), Fail> {
-    let plan = plan(rt.alloc())?;
-    has_two_groups(&rt, &plan);
-    Ok(())
+fn readers_of_two_groups(rt: HostRuntime) {
+    has_two_groups(&rt, &plan_of(&rt, rt.alloc(), TWO_GROUPS));
 }
 
-fn has_place(rt: &impl Abort, alloc: Global, plan: &Plan) -> Result<(), Fail> {
-    let known = Known {
-        args: Nums::from_slice(alloc, &[5, 7])?,
-        inputs: Nums::from_slice(alloc, &[-9])?,
-    };
-    assert_eq!(rt; plan.procedures(), 1);
-    assert_eq!(rt; plan.args(0), 2);
-    assert_eq!(rt; plan.groups(0), 2);
-    assert_eq!(rt; plan.inputs(0, 1).len(), 1);
-    let place = plan.place(0, 1, &known);
-    assert_eq!(rt; (place, plan.shard_of(place)), (-2, Shard(2)));
-    Ok(())
-}
-
-#[test]
-fn a_place_follows_from_inputs(rt: HostRuntime) -> Result<(), Fail> {
-    let alloc = rt.alloc();
-    has_place(&rt, alloc, &plan(alloc)?)
-}
-
-#[test]
-fn contended_pieces_apart_are_unfit(rt: HostRuntime) -> Result<(), Fail> {
-    let alloc = rt.alloc();
-    let workload = workload(alloc, TWO_GROUPS)?;
-    let classes = promote(alloc, &workload)?;
-    let first = vec![in alloc; 0u16]?;
-    let second = vec![in alloc; 1u16]?;
-    let third = vec![in alloc; 2u16]?;
-    let groups = Groups::from_lists(vec![in alloc; vec![in alloc; first, second, third]?]?);
-    match make_plan(alloc, workload, classes, groups) {
-        Ok(_) => panic!(rt; "taken"),
-        Err(fault) => assert_eq!(rt; fault, PlanFault::Unfit),
+fn known(rt: &impl Abort, alloc: Global) -> Known {
+    Known {
+        args: Nums::from_slice(alloc, &[5, 7]).expect(rt, "memory"),
+        inputs: Nums::from_slice(alloc, &[-9]).expect(rt, "memory"),
     }
-    Ok(())
+}
+
+fn has_place(rt: &impl Abort, plan: &Plan, known: &Known) {
+    assert!(rt; plan.procedures() == 1 && plan.args(0) == 2 && plan.groups(0) == 2);
+    assert!(rt; plan.inputs(0, 1).len() == 1);
+    assert!(rt; known.args.as_slice().len() == 2 && known.inputs.as_slice().len() == 1);
+    let place = plan.place(0, 1, known);
+    same(rt, "the place", &place, &-2);
+    same(rt, "its shard", &plan.shard_of(place), &Shard(2));
+}
+
+#[test]
+fn a_place_follows_from_inputs(rt: HostRuntime) {
+    let plan = plan_of(&rt, rt.alloc(), TWO_GROUPS);
+    has_place(&rt, &plan, &known(&rt, rt.alloc()));
+}
+
+fn group_of(rt: &impl Abort, alloc: Global, piece: u16) -> Vec<u16> {
+    [piece].to_vec(alloc).expect(rt, "memory")
+}
+
+// Each piece by itself.
+fn groups_apart(rt: &impl Abort, alloc: Global) -> Groups {
+    let mut groups = Vec::new(alloc);
+    for piece in 0..3 {
+        groups.push(group_of(rt, alloc, piece)).expect(rt, "memory");
+    }
+    Groups::from_lists(vec![in alloc; groups].expect(rt, "memory"))
+}
+
+fn fault_of(rt: &impl Abort, alloc: Global, groups: Groups) -> Option<PlanFault> {
+    let workload = workload(rt, alloc, TWO_GROUPS);
+    let classes = promote(alloc, &workload).expect(rt, "classes");
+    make_plan(alloc, workload, classes, groups).err()
+}
+
+#[test]
+fn contended_pieces_apart_are_unfit(rt: HostRuntime) {
+    let found = fault_of(&rt, rt.alloc(), groups_apart(&rt, rt.alloc()));
+    same(&rt, "the fault", &found, &Some(PlanFault::Unfit));
 }

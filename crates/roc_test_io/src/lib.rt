@@ -7,3 +7,5 @@ mod children;
 mod files;
 #[cfg(test)]
 mod links;
+#[cfg(test)]
+mod same;

@@ -6,4 +6,6 @@ mod lists;
 #[cfg(test)]
 mod orders;
 #[cfg(test)]
+mod same;
+#[cfg(test)]
 mod waiting;

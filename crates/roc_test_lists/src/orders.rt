@@ -1,56 +1,42 @@
 //! Orders: of components, and of a list of decisions.
+use crate::same::{are_ids, txn};
 use roc_audit::Order;
 use roc_base::{Edge, Edges, Shard, TxnId};
 use roc_component::order;
 use roc_depgraph::Deps;
 use std::alloc::Global;
 use std::process::Abort;
-use std::test::Fail;
-
-fn txn(seq: u32) -> TxnId {
-    TxnId { coord: 0, seq }
-}
 
 // The list of a transaction, from triples of a transaction, one that precedes it, and whether it does by immediate groups.
-fn list_of(alloc: Global, of: u32, triples: &[(u32, u32, bool)]) -> Result<Edges, Fail> {
+fn list_of(rt: &impl Abort, alloc: Global, of: u32, triples: &[(u32, u32, bool)]) -> Edges {
     let mut edges = Edges::new(alloc);
     for (to, from, immediate) in triples {
         if *to == of {
-            edges.unite(&[Edge::new(txn(*from), *immediate, !*immediate, Shard(0))])?;
+            let edge = Edge::new(txn(*from), *immediate, !*immediate, Shard(0));
+            edges.unite(&[edge]).expect(rt, "memory");
         }
     }
-    Ok(edges)
+    edges
 }
 
-fn known(alloc: Global, triples: &[(u32, u32, bool)]) -> Result<Deps, Fail> {
+fn known(rt: &impl Abort, alloc: Global, triples: &[(u32, u32, bool)]) -> Deps {
     let mut deps = Deps::new(alloc);
     for of in 0..8u32 {
-        deps.learn(txn(of), &list_of(alloc, of, triples)?)?;
+        let list = list_of(rt, alloc, of, triples);
+        deps.learn(txn(of), &list).expect(rt, "memory");
     }
-    Ok(deps)
+    deps
 }
 
-// The transactions of these numbers are ordered so.
-fn is_ordered(
-    rt: &impl Abort,
-    alloc: Global,
-    name: &str,
-    triples: &[(u32, u32, bool)],
-    seqs: &[u32],
-    wanted: &[u32],
-) -> Result<(), Fail> {
+fn ids_of(rt: &impl Abort, alloc: Global, seqs: &[u32]) -> Vec<TxnId> {
     let mut ids = Vec::new(alloc);
     for seq in seqs {
-        ids.push(txn(*seq))?;
+        ids.push(txn(*seq)).expect(rt, "memory");
     }
-    let mut found = Vec::new(alloc);
-    for id in &order(alloc, &known(alloc, triples)?, &ids)? {
-        found.push(id.seq)?;
-    }
-    assert_eq!(rt; found.as_slice(), wanted, "{name}");
-    Ok(())
+    ids
 }
 
+// What is tried, its triples, the transactions of these numbers, and how they are ordered.
 type Case = (
     &'static str,
     &'static [(u32, u32, bool)],
@@ -104,19 +90,32 @@ const CASES: [Case; 8] = [
     ),
 ];
 
-#[test]
-fn components_are_ordered_as_the_rule_says(rt: HostRuntime) -> Result<(), Fail> {
-    for (name, triples, seqs, wanted) in CASES {
-        is_ordered(&rt, rt.alloc(), name, triples, seqs, wanted)?;
+fn is_ordered(rt: &impl Abort, alloc: Global, case: &Case) {
+    let deps = known(rt, alloc, case.1);
+    let ids = ids_of(rt, alloc, case.2);
+    let found = order(alloc, &deps, &ids).expect(rt, "memory");
+    are_ids(rt, case.0, &found, case.3);
+}
+
+fn are_ordered(rt: &impl Abort, alloc: Global, cases: &[Case]) {
+    for case in cases {
+        is_ordered(rt, alloc, case);
     }
-    Ok(())
 }
 
 #[test]
-fn each_transaction_is_noted_once(rt: HostRuntime) -> Result<(), Fail> {
-    let mut noted = Order::new(rt.alloc());
-    noted.note(&[txn(1), txn(0)])?;
-    noted.note(&[txn(0), txn(2), txn(2)])?;
-    assert_eq!(rt; noted.as_slice(), [txn(1), txn(0), txn(2)].as_slice());
-    Ok(())
+fn components_are_ordered_as_the_rule_says(rt: HostRuntime) {
+    are_ordered(&rt, rt.alloc(), &CASES);
+}
+
+fn is_noted_once(rt: &impl Abort, noted: &mut Order) {
+    noted.note(&[txn(1), txn(0)]).expect(rt, "memory");
+    let more = noted.note(&[txn(0), txn(2), txn(2)]);
+    more.expect(rt, "memory");
+    are_ids(rt, "the notes", noted.as_slice(), &[1, 0, 2]);
+}
+
+#[test]
+fn each_transaction_is_noted_once(rt: HostRuntime) {
+    is_noted_once(&rt, &mut Order::new(rt.alloc()));
 }

@@ -2,11 +2,10 @@
 use roc_base::Node;
 use roc_lang_parse::parse;
 use roc_lang_resolve::resolve;
-use roc_log::{LogLine, parse_log};
+use roc_log::{Log, LogLine, parse_log};
 use roc_program::Workload;
-use std::alloc::{AllocError, Global};
+use std::alloc::Global;
 use std::process::Abort;
-use std::test::Fail;
 
 // Procedures without and with arguments, and a view.
 const WORKLOAD: &[u8] = b"shards 2;
@@ -78,73 +77,67 @@ const LOGS: [(&[u8], &str); 37] = [
     (b"node c0\ntick\nsubmit look\n", "line 3: view"),
 ];
 
-fn workload_of(alloc: Global) -> Result<Workload, Fail> {
-    let source = parse(alloc, WORKLOAD)?;
-    Ok(resolve(alloc, source)?)
+fn workload_of(rt: &impl Abort, alloc: Global) -> Workload {
+    let source = parse(alloc, WORKLOAD).expect(rt, "a text");
+    resolve(alloc, source).expect(rt, "a workload")
 }
 
-fn push_integers(text: &mut String, numbers: &[i64]) -> Result<(), AllocError> {
+fn push_integers(rt: &impl Abort, text: &mut String, numbers: &[i64]) {
     for number in numbers {
-        write!(text, " {number}")?;
+        write!(text, " {number}").expect(rt, "memory");
     }
-    Ok(())
 }
 
-fn push_line(text: &mut String, line: &LogLine) -> Result<(), AllocError> {
+fn push_size(rt: &impl Abort, text: &mut String, what: &str, size: usize) {
+    write!(text, "{what} {size}").expect(rt, "memory");
+}
+
+fn push_line(rt: &impl Abort, text: &mut String, line: &LogLine) {
     match line {
         LogLine::Submit { proc, args } => {
-            write!(text, "submit {proc}")?;
-            push_integers(text, args.as_slice())
+            write!(text, "submit {proc}").expect(rt, "memory");
+            push_integers(rt, text, args.as_slice());
         }
-        LogLine::In(bytes) => {
-            let size = bytes.len();
-            write!(text, "in {size}")
-        }
-        LogLine::Tick => text.push_str("tick"),
-        LogLine::Out(bytes) => {
-            let size = bytes.len();
-            write!(text, "out {size}")
-        }
+        LogLine::In(bytes) => push_size(rt, text, "in", bytes.len()),
+        LogLine::Tick => text.push_str("tick").expect(rt, "memory"),
+        LogLine::Out(bytes) => push_size(rt, text, "out", bytes.len()),
         LogLine::Answer { id, reply } => {
-            write!(text, "answer {id}")?;
-            push_integers(text, reply.as_slice())
+            write!(text, "answer {id}").expect(rt, "memory");
+            push_integers(rt, text, reply.as_slice());
         }
+    }
+}
+
+fn push_log(rt: &impl Abort, text: &mut String, log: &Log) {
+    let node = log.node;
+    write!(text, "{node} ").expect(rt, "memory");
+    for line in log.lines.as_slice() {
+        push_line(rt, text, line);
+        text.push(';').expect(rt, "memory");
     }
 }
 
 // What is read: the node and each line, or the first fault.
-fn told(alloc: Global, workload: &Workload, text: &[u8]) -> Result<String, AllocError> {
-    let mut told = String::new(alloc);
-    match parse_log(alloc, workload, &TAG, &[Node::Coord(3)], text) {
-        Ok(log) => {
-            let node = log.node;
-            write!(&mut told, "{node} ")?;
-            for line in log.lines.as_slice() {
-                push_line(&mut told, line)?;
-                told.push(';')?;
-            }
-        }
-        Err(fault) => write!(&mut told, "{fault}")?,
+fn tell(rt: &impl Abort, alloc: Global, workload: &Workload, bytes: &[u8], text: &mut String) {
+    match &parse_log(alloc, workload, &TAG, &[Node::Coord(3)], bytes) {
+        Ok(log) => push_log(rt, text, log),
+        Err(fault) => write!(text, "{fault}").expect(rt, "memory"),
     }
-    Ok(told)
 }
 
-fn are_logs(
-    rt: &impl Abort,
-    alloc: Global,
-    workload: &Workload,
-    cases: &[(&[u8], &str)],
-) -> Result<(), Fail> {
-    for (text, wanted) in cases {
-        let told = told(alloc, workload, text)?;
-        assert_eq!(rt; told.as_str(), *wanted);
+fn is_told(rt: &impl Abort, alloc: Global, workload: &Workload, case: &(&[u8], &str)) {
+    let mut told = String::new(alloc);
+    tell(rt, alloc, workload, case.0, &mut told);
+    assert_eq!(rt; told.as_str(), case.1);
+}
+
+fn are_told(rt: &impl Abort, alloc: Global, workload: &Workload, cases: &[(&[u8], &str)]) {
+    for case in cases {
+        is_told(rt, alloc, workload, case);
     }
-    Ok(())
 }
 
 #[test]
-fn lines_and_first_faults(rt: HostRuntime) -> Result<(), Fail> {
-    let alloc = rt.alloc();
-    let workload = workload_of(alloc)?;
-    are_logs(&rt, alloc, &workload, &LOGS)
+fn lines_and_first_faults(rt: HostRuntime) {
+    are_told(&rt, rt.alloc(), &workload_of(&rt, rt.alloc()), &LOGS);
 }

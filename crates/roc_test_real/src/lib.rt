@@ -8,4 +8,6 @@ mod disks;
 #[cfg(test)]
 mod links;
 #[cfg(test)]
+mod same;
+#[cfg(test)]
 mod streams;

@@ -1,84 +1,122 @@
 //! Streams that gather, over files of the folder that the tests run in, which they take away again, and over writers that hold five bytes.
+use crate::same::{same, same_items};
 use roc_io::{Sink, Written};
 use roc_io_real::{Gathered, finish_both};
 use std::alloc::Global;
 use std::fs;
 use std::fs::File;
-use std::io::Cursor;
+use std::io::{Cursor, Write};
+use std::process::Abort;
+use std::rt::Files;
 use std::test::Fail;
+
+// Writes these pieces: whether each was written.
+fn writes<S: Sink>(rt: &impl Abort, sink: &mut S, pieces: &[&[u8]], wanted: Written) {
+    for piece in pieces {
+        same(rt, "a write", &sink.write(piece), &wanted);
+    }
+}
+
+fn finishes<W: Write>(rt: &impl Abort, stream: &mut Gathered<W>, wanted: Written) {
+    same(rt, "the end", &stream.finish(), &wanted);
+}
+
+fn holds<R: Files + AllocGlobal + Abort>(rt: &R, name: &str, wanted: &[u8]) -> Result<(), Fail> {
+    let held = fs::read(rt, name)?;
+    same_items(rt, "the file", held.as_slice(), wanted);
+    Ok(())
+}
+
+fn writes_in_order<R: Files + AllocGlobal + Abort, W: Write>(
+    rt: &R,
+    stream: &mut Gathered<W>,
+) -> Result<(), Fail> {
+    writes(rt, stream, &[b"ab", b"cdef"], Written::Ok);
+    holds(rt, "gathered.test", b"")?;
+    writes(rt, stream, &[b"ghi", b"", b"0123456789", b"z"], Written::Ok);
+    holds(rt, "gathered.test", b"abcdefghi0123456789")?;
+    finishes(rt, stream, Written::Ok);
+    holds(rt, "gathered.test", b"abcdefghi0123456789z")
+}
 
 #[test]
 fn what_is_gathered_is_written_in_order(rt: HostRuntime) -> Result<(), Fail> {
     let file = File::create(&rt, "gathered.test")?;
-    let mut stream = Gathered::new(rt.alloc(), file, 8);
-    let gathered = [stream.write(b"ab"), stream.write(b"cdef")];
-    let first = fs::read(&rt, "gathered.test")?;
-    let written = [
-        stream.write(b"ghi"),
-        stream.write(b""),
-        stream.write(b"0123456789"),
-        stream.write(b"z"),
-    ];
-    let most = fs::read(&rt, "gathered.test")?;
-    let last = stream.finish();
-    let all = fs::read(&rt, "gathered.test")?;
+    let ended = writes_in_order(&rt, &mut Gathered::new(rt.alloc(), file, 8));
     let _ = fs::remove_file(&rt, "gathered.test");
-    assert_eq!(rt;
-        (gathered, written, last),
-        ([Written::Ok; 2], [Written::Ok; 4], Written::Ok)
-    );
-    assert_eq!(rt; first.len(), 0);
-    assert_eq!(rt; most.as_slice(), b"abcdefghi0123456789".as_slice());
-    assert_eq!(rt; all.as_slice(), b"abcdefghi0123456789z".as_slice());
-    Ok(())
+    ended
+}
+
+fn writes_at_once<R: Files + AllocGlobal + Abort, W: Write>(
+    rt: &R,
+    stream: &mut Gathered<W>,
+) -> Result<(), Fail> {
+    writes(rt, stream, &[b"a\n", b"b\n"], Written::Ok);
+    holds(rt, "at_once.test", b"a\nb\n")
 }
 
 #[test]
 fn each_piece_goes_out_where_there_is_no_room(rt: HostRuntime) -> Result<(), Fail> {
     let file = File::create(&rt, "at_once.test")?;
-    let mut stream = Gathered::new(rt.alloc(), file, 0);
-    let written = [stream.write(b"a\n"), stream.write(b"b\n")];
-    let held = fs::read(&rt, "at_once.test")?;
+    let ended = writes_at_once(&rt, &mut Gathered::new(rt.alloc(), file, 0));
     let _ = fs::remove_file(&rt, "at_once.test");
-    assert_eq!(rt; written, [Written::Ok; 2]);
-    assert_eq!(rt; held.as_slice(), b"a\nb\n".as_slice());
-    Ok(())
+    ended
+}
+
+fn writes_nothing_more<W: Write>(rt: &impl Abort, stream: &mut Gathered<W>) {
+    writes(rt, stream, &[b"ab"], Written::Ok);
+    writes(rt, stream, &[b"cdefgh", b""], Written::Failed);
+    finishes(rt, stream, Written::Failed);
+    same(rt, "the faults", &stream.faults(), &3);
 }
 
 #[test]
 fn a_stream_that_failed_writes_nothing_more(rt: HostRuntime) {
     let mut held = Cursor::new([0; 5]);
-    let mut stream = Gathered::new(rt.alloc(), &mut held, 4);
-    let first = stream.write(b"ab");
-    let failed = [stream.write(b"cdefgh"), stream.write(b""), stream.finish()];
-    assert_eq!(rt; (first, failed), (Written::Ok, [Written::Failed; 3]));
-    assert_eq!(rt; stream.faults(), 3);
-    drop(stream);
-    assert_eq!(rt; *held.get_ref(), *b"abcde");
+    writes_nothing_more(&rt, &mut Gathered::new(rt.alloc(), &mut held, 4));
+    same_items(&rt, "the writer", held.get_ref(), b"abcde");
 }
 
-// What the write of this piece to a writer of five bytes answers, what the end answers, and what is told by then.
-fn ended_after(alloc: Global, piece: &[u8]) -> (Written, Written, Vec<u8>) {
-    let mut told = Vec::new(alloc);
-    let mut out = Gathered::new(alloc, Cursor::new([0; 5]), 8);
-    let mut err = Gathered::new(alloc, &mut told, 8);
-    let first = out.write(piece);
+// A piece, what its write to a writer of five bytes answers, what the end answers, and what is told by then.
+type Case = (&'static [u8], Written, Written, &'static [u8]);
+
+fn ends<V: Write, W: Write>(
+    rt: &impl Abort,
+    out: &mut Gathered<V>,
+    err: &mut Gathered<W>,
+    case: &Case,
+) {
+    writes(rt, out, &[case.0], case.1);
     err.write(b"told\n");
-    let last = finish_both(&mut out, &mut err, b"sink\n");
-    drop(err);
-    (first, last, told)
+    let last = finish_both(out, err, b"sink\n");
+    same(rt, "the end", &last, &case.2);
+}
+
+fn ends_so(rt: &impl Abort, alloc: Global, told: &mut Vec<u8>, case: &Case) {
+    let mut out = Gathered::new(alloc, Cursor::new([0; 5]), 8);
+    let mut err = Gathered::new(alloc, told, 8);
+    ends(rt, &mut out, &mut err, case);
+}
+
+fn is_told(rt: &impl Abort, alloc: Global, case: &Case) {
+    let mut told = Vec::new(alloc);
+    ends_so(rt, alloc, &mut told, case);
+    same_items(rt, "what is told", told.as_slice(), case.3);
+}
+
+const ENDS: [Case; 3] = [
+    (b"abcde", Written::Ok, Written::Ok, b"told\n"),
+    (b"abcdef", Written::Ok, Written::Failed, b"sink\n"),
+    (b"abcdefgh", Written::Failed, Written::Failed, b"told\n"),
+];
+
+fn are_told(rt: &impl Abort, alloc: Global, cases: &[Case]) {
+    for case in cases {
+        is_told(rt, alloc, case);
+    }
 }
 
 #[test]
 fn what_fails_at_the_end_is_told_alone_and_once(rt: HostRuntime) {
-    let cases: [(&[u8], Written, Written, &[u8]); 3] = [
-        (b"abcde", Written::Ok, Written::Ok, b"told\n"),
-        (b"abcdef", Written::Ok, Written::Failed, b"sink\n"),
-        (b"abcdefgh", Written::Failed, Written::Failed, b"told\n"),
-    ];
-    for (piece, first, last, told) in cases {
-        let ended = ended_after(rt.alloc(), piece);
-        assert_eq!(rt; (ended.0, ended.1), (first, last));
-        assert_eq!(rt; ended.2.as_slice(), told);
-    }
+    are_told(&rt, rt.alloc(), &ENDS);
 }

@@ -3,7 +3,7 @@ ghost use Rattle.std.specs.Prelude.{◌≡◌, IfOk};
 
 use roc_base::{Node, Shard, TxnId};
 use roc_msg::Msg;
-use roc_wire::{WireFault, decode, encode, tag};
+use roc_wire::{Header, WireFault, decode, encode, tag};
 use std::alloc::Global;
 use std::process::Abort;
 
@@ -32,58 +32,79 @@ pub(crate) fn written_again(alloc: Global, bytes: &[u8]) -> Result<Vec<u8>, Wire
     Ok(encode(alloc, &header, &msg)?)
 }
 
+fn read(rt: &impl Abort, alloc: Global, bytes: &[u8]) -> (Header, Msg) {
+    decode(alloc, bytes).expect(rt, "a datagram")
+}
+
+fn is_start(header: &Header, msg: &Msg) -> bool {
+    match msg {
+        Msg::Start { id, args, .. } => {
+            header.tag == TAG
+                && header.from == Node::Coord(0)
+                && *id == TxnId { coord: 0, seq: 0 }
+                && args.as_slice().first() == Some(&5)
+        }
+        _ => false,
+    }
+}
+
 #[test]
 fn a_start_is_read_and_written_again(rt: HostRuntime) {
-    match decode(rt.alloc(), START) {
-        Ok((header, Msg::Start { id, args, .. })) => {
-            assert!(rt; header.tag == TAG && header.from == Node::Coord(0));
-            assert!(rt; id == TxnId { coord: 0, seq: 0 });
-            assert_eq!(rt; args.as_slice()[0], 5);
-        }
-        _ => panic!(rt; "no start"),
-    }
+    let (header, msg) = read(&rt, rt.alloc(), START);
+    assert!(rt; is_start(&header, &msg));
     assert!(rt; written_again(rt.alloc(), START).is_ok());
+}
+
+fn is_fetch(header: &Header, msg: &Msg) -> bool {
+    match msg {
+        Msg::Fetch { asker, .. } => { header.from == Node::Server(Shard(1)) && *asker == Shard(1) }
+        _ => false,
+    }
 }
 
 #[test]
 fn a_fetch_is_read(rt: HostRuntime) {
-    match decode(rt.alloc(), FETCH) {
-        Ok((header, Msg::Fetch { asker, .. })) => {
-            assert!(rt; header.from == Node::Server(Shard(1)) && asker == Shard(1));
+    let (header, msg) = read(&rt, rt.alloc(), FETCH);
+    assert!(rt; is_fetch(&header, &msg));
+}
+
+fn is_end(header: &Header, msg: &Msg) -> bool {
+    match msg {
+        Msg::Ended { coord, below } => {
+            header.from == Node::Coord(0) && *coord == 0 && *below == 1
         }
-        _ => panic!(rt; "no fetch"),
+        _ => false,
     }
 }
 
 #[test]
 fn an_end_is_read(rt: HostRuntime) {
-    match decode(rt.alloc(), ENDED) {
-        Ok((header, Msg::Ended { coord, below })) => {
-            assert!(rt; header.from == Node::Coord(0) && coord == 0 && below == 1);
-        }
-        _ => panic!(rt; "no end"),
-    }
+    let (header, msg) = read(&rt, rt.alloc(), ENDED);
+    assert!(rt; is_end(&header, &msg));
 }
 
-fn is_refused(rt: &impl Abort, alloc: Global, cases: &[(&[u8], WireFault)]) {
-    for (bytes, wanted) in cases {
-        match decode(alloc, bytes) {
-            Ok(_) => panic!(rt; "a datagram"),
-            Err(fault) => assert_eq!(rt; fault, *wanted),
-        }
+// Headers, and their first faults.
+const HEADERS: [(&[u8], WireFault); 5] = [
+    (b"", WireFault::Short),
+    (b"RCO", WireFault::Short),
+    (b"RCO2", WireFault::Magic),
+    (b"RCO1\x01", WireFault::Version),
+    (b"RCO1\x02\x0e", WireFault::Kind),
+];
+
+fn fault_of(alloc: Global, bytes: &[u8]) -> Option<WireFault> {
+    decode(alloc, bytes).err()
+}
+
+fn are_refused(rt: &impl Abort, alloc: Global, cases: &[(&[u8], WireFault)]) {
+    for case in cases {
+        assert!(rt; fault_of(alloc, case.0) == Some(case.1));
     }
 }
 
 #[test]
 fn headers_have_their_first_fault(rt: HostRuntime) {
-    let cases: [(&[u8], WireFault); 5] = [
-        (b"", WireFault::Short),
-        (b"RCO", WireFault::Short),
-        (b"RCO2", WireFault::Magic),
-        (b"RCO1\x01", WireFault::Version),
-        (b"RCO1\x02\x0e", WireFault::Kind),
-    ];
-    is_refused(&rt, rt.alloc(), &cases);
+    are_refused(&rt, rt.alloc(), &HEADERS);
 }
 
 #[test]

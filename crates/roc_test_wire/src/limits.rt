@@ -1,114 +1,96 @@
 //! Each count of a datagram at its limit and one past it, each range at its end, and every front of a datagram.
 use crate::datagrams::{FETCH, START, TWICE, written_again};
 use roc_wire::{WireFault, decode};
-use std::alloc::{AllocError, Global};
+use std::alloc::Global;
 use std::process::Abort;
-use std::test::Fail;
 
-// What a list holds. The members differ in the number of their place alone.
-#[derive(Clone, Copy)]
-enum Members {
-    Nums,
-    Edges,
-    Facts,
-}
+// What stands in front of the number of its place in each member of a list, and what stands behind it.
+type Members = (&'static [u8], &'static [u8]);
+
+const NUMS: Members = (&[0xff; 6], &[]);
+
+const EDGES: Members = (&[0; 4], &[3, 63]);
+
+const FACTS: Members = (&[0; 4], &[0; 2]);
 
 // A list of a datagram: the kind, the body in front of the list and behind it, and the most members.
 type List = (u8, &'static [u8], Members, u16, &'static [u8]);
 
 const LISTS: [List; 15] = [
-    (1, &[0; 10], Members::Nums, 8, &[0; 2]),
-    (1, &[0; 12], Members::Nums, 1024, &[]),
-    (2, &[0; 9], Members::Nums, 1024, &[0; 6]),
-    (2, &[0; 11], Members::Nums, 1024, &[0; 4]),
-    (2, &[0; 13], Members::Edges, 4096, &[0; 2]),
-    (2, &[0; 15], Members::Facts, 16, &[]),
-    (3, &[0; 6], Members::Edges, 4096, &[0; 2]),
-    (3, &[0; 8], Members::Facts, 16, &[]),
-    (
-        3,
-        b"\0\0\0\0\0\0\0\0\0\x01\0\0\0\0\0\x01",
-        Members::Edges,
-        1000,
-        &[],
-    ),
+    (1, &[0; 10], NUMS, 8, &[0; 2]),
+    (1, &[0; 12], NUMS, 1024, &[]),
+    (2, &[0; 9], NUMS, 1024, &[0; 6]),
+    (2, &[0; 11], NUMS, 1024, &[0; 4]),
+    (2, &[0; 13], EDGES, 4096, &[0; 2]),
+    (2, &[0; 15], FACTS, 16, &[]),
+    (3, &[0; 6], EDGES, 4096, &[0; 2]),
+    (3, &[0; 8], FACTS, 16, &[]),
+    (3, b"\0\0\0\0\0\0\0\0\0\x01\0\0\0\0\0\x01", EDGES, 1000, &[]),
     (
         3,
         b"\0\0\0\0\0\0\0\0\0\x02\0\0\0\0\0\x01\0\x01\0\0\0\0\0\x01\x01\0\0\0\0\0\0\x02",
-        Members::Edges,
+        EDGES,
         999,
         &[],
     ),
-    (4, &[0; 7], Members::Nums, 1024, &[]),
-    (6, &[0; 6], Members::Edges, 4096, &[]),
-    (10, &[0; 14], Members::Nums, 8, &[]),
-    (11, &[0; 13], Members::Nums, 64, &[0; 2]),
-    (11, &[0; 15], Members::Nums, 1024, &[]),
+    (4, &[0; 7], NUMS, 1024, &[]),
+    (6, &[0; 6], EDGES, 4096, &[]),
+    (10, &[0; 14], NUMS, 8, &[]),
+    (11, &[0; 13], NUMS, 64, &[0; 2]),
+    (11, &[0; 15], NUMS, 1024, &[]),
 ];
 
-fn push_member(bytes: &mut Vec<u8>, members: Members, place: u16) -> Result<(), AllocError> {
-    let number = place.to_be_bytes();
-    match members {
-        Members::Nums => bytes.extend_from_slice(&[0xff; 6])?,
-        Members::Edges | Members::Facts => bytes.extend_from_slice(&[0; 4])?,
-    }
-    bytes.extend_from_slice(&number)?;
-    match members {
-        Members::Nums => Ok(()),
-        Members::Edges => bytes.extend_from_slice(&[3, 63]),
-        Members::Facts => bytes.extend_from_slice(&[0; 2]),
+fn put(rt: &impl Abort, bytes: &mut Vec<u8>, part: &[u8]) {
+    bytes.extend_from_slice(part).expect(rt, "memory");
+}
+
+fn put_members(rt: &impl Abort, bytes: &mut Vec<u8>, members: Members, count: u16) {
+    put(rt, bytes, &count.to_be_bytes());
+    for place in 0..count {
+        put(rt, bytes, members.0);
+        put(rt, bytes, &place.to_be_bytes());
+        put(rt, bytes, members.1);
     }
 }
 
-// A datagram of a kind, a sender and a body.
-fn datagram_of(
-    alloc: Global,
-    kind: u8,
-    sender: [u8; 3],
-    body: &[u8],
-) -> Result<Vec<u8>, AllocError> {
-    let mut bytes = Vec::new(alloc);
-    bytes.extend_from_slice(b"RCO1\x02")?;
-    bytes.push(kind)?;
-    bytes.extend_from_slice(b"\x01\x02\x03\x04\x05\x06\x07\x08")?;
-    bytes.extend_from_slice(&sender)?;
-    bytes.extend_from_slice(body)?;
-    Ok(bytes)
+// The front of a datagram of a kind, a sender and a body that begins so.
+fn put_front(rt: &impl Abort, bytes: &mut Vec<u8>, kind: u8, sender: &[u8; 3], body: &[u8]) {
+    put(rt, bytes, b"RCO1\x02");
+    put(rt, bytes, &[kind]);
+    put(rt, bytes, b"\x01\x02\x03\x04\x05\x06\x07\x08");
+    put(rt, bytes, sender);
+    put(rt, bytes, body);
 }
 
 // A datagram with so many members in the list.
-fn with_members(alloc: Global, list: List, count: u16) -> Result<Vec<u8>, AllocError> {
-    let (kind, front, members, _, back) = list;
-    let mut bytes = datagram_of(alloc, kind, [1, 0, 15], front)?;
-    bytes.extend_from_slice(&count.to_be_bytes())?;
-    for place in 0..count {
-        push_member(&mut bytes, members, place)?;
-    }
-    bytes.extend_from_slice(back)?;
-    Ok(bytes)
+fn with_members(rt: &impl Abort, alloc: Global, list: &List, count: u16) -> Vec<u8> {
+    let mut bytes = Vec::new(alloc);
+    put_front(rt, &mut bytes, list.0, &[1, 0, 15], list.1);
+    put_members(rt, &mut bytes, list.2, count);
+    put(rt, &mut bytes, list.4);
+    bytes
 }
 
 fn is_judged(rt: &impl Abort, alloc: Global, bytes: &[u8], wanted: Option<WireFault>) {
-    match written_again(alloc, bytes) {
-        Ok(_) => assert!(rt; wanted.is_none()),
-        Err(fault) => assert!(rt; wanted == Some(fault)),
-    }
+    assert!(rt; written_again(alloc, bytes).err() == wanted);
 }
 
-fn are_limited(rt: &impl Abort, alloc: Global, lists: &[List]) -> Result<(), Fail> {
+fn is_limited(rt: &impl Abort, alloc: Global, list: &List, count: u16, wanted: Option<WireFault>) {
+    let bytes = with_members(rt, alloc, list, count);
+    is_judged(rt, alloc, &bytes, wanted);
+}
+
+fn are_limited(rt: &impl Abort, alloc: Global, lists: &[List]) {
     for list in lists {
-        let most = list.3;
-        let full = with_members(alloc, *list, most)?;
-        is_judged(rt, alloc, &full, None);
-        let past = with_members(alloc, *list, most.saturating_add(1))?;
-        is_judged(rt, alloc, &past, Some(WireFault::Count));
+        let past = list.3.saturating_add(1);
+        is_limited(rt, alloc, list, list.3, None);
+        is_limited(rt, alloc, list, past, Some(WireFault::Count));
     }
-    Ok(())
 }
 
 #[test]
-fn lists_are_taken_up_to_their_limits(rt: HostRuntime) -> Result<(), Fail> {
-    are_limited(&rt, rt.alloc(), LISTS.as_slice())
+fn lists_are_taken_up_to_their_limits(rt: HostRuntime) {
+    are_limited(&rt, rt.alloc(), &LISTS);
 }
 
 // The kind, the sender's role and number, the body, and the first fault.
@@ -198,17 +180,21 @@ const FIELDS: [Field; 31] = [
     (13, [0, 0, 1], b"\0\0\0\0\0\x01\x40", Some(WireFault::Count)),
 ];
 
-fn are_judged(rt: &impl Abort, alloc: Global, fields: &[Field]) -> Result<(), Fail> {
-    for (kind, sender, body, wanted) in fields {
-        let bytes = datagram_of(alloc, *kind, *sender, body)?;
-        is_judged(rt, alloc, &bytes, *wanted);
+fn is_field(rt: &impl Abort, alloc: Global, field: &Field) {
+    let mut bytes = Vec::new(alloc);
+    put_front(rt, &mut bytes, field.0, &field.1, field.2);
+    is_judged(rt, alloc, &bytes, field.3);
+}
+
+fn are_fields(rt: &impl Abort, alloc: Global, fields: &[Field]) {
+    for field in fields {
+        is_field(rt, alloc, field);
     }
-    Ok(())
 }
 
 #[test]
-fn fields_are_judged_from_left_to_right(rt: HostRuntime) -> Result<(), Fail> {
-    are_judged(&rt, rt.alloc(), FIELDS.as_slice())
+fn fields_are_judged_from_left_to_right(rt: HostRuntime) {
+    are_fields(&rt, rt.alloc(), &FIELDS);
 }
 
 fn have_fronts(rt: &impl Abort, alloc: Global, bytes: &[u8], whole: usize) {
