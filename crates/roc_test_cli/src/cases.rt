@@ -1,6 +1,6 @@
 //! Runs of the program, of which one call of the outside fails, and what is to come of each.
 use crate::nodes::WITH_NODES;
-use crate::outside::{Failing, Of, Packet};
+use crate::outside::{Failing, NOTHING, Packet};
 use crate::texts::{
     CALLER, CHECKED, COMMIT, COMMITOK, HALF_OF_CHECKED, REPORT, START, STARTOK, STOP,
     TWO_EVENTS_AND_A_HALF,
@@ -20,17 +20,17 @@ pub(crate) struct Case {
     pub log: &'static [u8],
 }
 
-/// Runs one after another on one disk, on which the journal's name holds these bytes, and of which this call fails.
+/// Runs one after another on one disk, on which the journal's name holds these bytes, and of which this call fails, if it is not 0.
 pub(crate) struct Lives {
     pub journal: &'static [u8],
-    pub failing: Option<u64>,
+    pub failing: u64,
     pub cases: &'static [Case],
 }
 
 const OVER_FILES: [Case; 14] = [
     Case {
         words: &["replay", "add.rcw", "add.rcs"],
-        failing: None,
+        failing: NOTHING,
         arrivals: &[],
         status: 0,
         out: REPORT,
@@ -41,7 +41,10 @@ const OVER_FILES: [Case; 14] = [
     },
     Case {
         words: &["replay", "add.rcw", "add.rcs"],
-        failing: Some((Of::Files, 1)),
+        failing: Failing {
+            files: 1,
+            ..NOTHING
+        },
         arrivals: &[],
         status: 6,
         out: b"",
@@ -52,7 +55,10 @@ const OVER_FILES: [Case; 14] = [
     },
     Case {
         words: &["replay", "add.rcw", "add.rcs"],
-        failing: Some((Of::Files, 2)),
+        failing: Failing {
+            files: 2,
+            ..NOTHING
+        },
         arrivals: &[],
         status: 6,
         out: b"",
@@ -63,7 +69,7 @@ const OVER_FILES: [Case; 14] = [
     },
     Case {
         words: &["replay", "add.rcw", "add.rcs"],
-        failing: Some((Of::Out, 3)),
+        failing: Failing { out: 3, ..NOTHING },
         arrivals: &[],
         status: 7,
         out: TWO_EVENTS_AND_A_HALF,
@@ -74,7 +80,7 @@ const OVER_FILES: [Case; 14] = [
     },
     Case {
         words: &["check", "none.rcw"],
-        failing: Some((Of::Line, 1)),
+        failing: Failing { line: 1, ..NOTHING },
         arrivals: &[],
         status: 6,
         out: b"",
@@ -85,7 +91,7 @@ const OVER_FILES: [Case; 14] = [
     },
     Case {
         words: &["check", "add.rcw"],
-        failing: None,
+        failing: NOTHING,
         arrivals: &[],
         status: 0,
         out: CHECKED,
@@ -96,7 +102,10 @@ const OVER_FILES: [Case; 14] = [
     },
     Case {
         words: &["check", "add.rcw"],
-        failing: Some((Of::Files, 1)),
+        failing: Failing {
+            files: 1,
+            ..NOTHING
+        },
         arrivals: &[],
         status: 6,
         out: b"",
@@ -107,7 +116,7 @@ const OVER_FILES: [Case; 14] = [
     },
     Case {
         words: &["check", "add.rcw"],
-        failing: Some((Of::Out, 1)),
+        failing: Failing { out: 1, ..NOTHING },
         arrivals: &[],
         status: 7,
         out: HALF_OF_CHECKED,
@@ -118,7 +127,7 @@ const OVER_FILES: [Case; 14] = [
     },
     Case {
         words: &["audit", "add.rcw", "s.log", "c.log"],
-        failing: None,
+        failing: NOTHING,
         arrivals: &[],
         status: 0,
         out: b"order 0.0\nyes 1 answered\n",
@@ -129,7 +138,10 @@ const OVER_FILES: [Case; 14] = [
     },
     Case {
         words: &["audit", "add.rcw", "s.log", "c.log"],
-        failing: Some((Of::Files, 3)),
+        failing: Failing {
+            files: 3,
+            ..NOTHING
+        },
         arrivals: &[],
         status: 6,
         out: b"",
@@ -140,7 +152,7 @@ const OVER_FILES: [Case; 14] = [
     },
     Case {
         words: &["audit", "add.rcw", "s.log", "c.log"],
-        failing: Some((Of::Out, 1)),
+        failing: Failing { out: 1, ..NOTHING },
         arrivals: &[],
         status: 7,
         out: b"order 0.0\nye",
@@ -151,7 +163,7 @@ const OVER_FILES: [Case; 14] = [
     },
     Case {
         words: &["audit", "add.rcw", "s.log", "forged.log"],
-        failing: None,
+        failing: NOTHING,
         arrivals: &[],
         status: 12,
         out: b"no mismatch forged.log:7\n",
@@ -162,7 +174,7 @@ const OVER_FILES: [Case; 14] = [
     },
     Case {
         words: &["audit", "add.rcw", "s.log", "forged.log"],
-        failing: Some((Of::Out, 1)),
+        failing: Failing { out: 1, ..NOTHING },
         arrivals: &[],
         status: 7,
         out: b"no mismatch ",
@@ -173,7 +185,7 @@ const OVER_FILES: [Case; 14] = [
     },
     Case {
         words: &["audit", "add.rcw", "c.log"],
-        failing: None,
+        failing: NOTHING,
         arrivals: &[],
         status: 3,
         out: b"",
@@ -198,7 +210,7 @@ const STARTED_AGAIN: [Case; 2] = [
             "--journal",
             "j",
         ],
-        failing: None,
+        failing: NOTHING,
         arrivals: &[(CALLER, START), (CALLER, STOP)],
         status: 0,
         out: b"serving 0\nend 0 stop taken 2 skipped 0\n",
@@ -219,7 +231,7 @@ const STARTED_AGAIN: [Case; 2] = [
             "--journal",
             "j",
         ],
-        failing: None,
+        failing: NOTHING,
         arrivals: &[(CALLER, COMMIT), (CALLER, STOP)],
         status: 0,
         out: b"serving 0\nend 0 stop taken 2 skipped 0\n",
@@ -242,7 +254,7 @@ const NO_JOURNAL: [Case; 1] = [Case {
         "--journal",
         "j",
     ],
-    failing: None,
+    failing: NOTHING,
     arrivals: &[(CALLER, START)],
     status: 3,
     out: b"",
@@ -264,7 +276,7 @@ const UNOPENED: [Case; 1] = [Case {
         "--journal",
         "j",
     ],
-    failing: None,
+    failing: NOTHING,
     arrivals: &[(CALLER, START)],
     status: 10,
     out: b"",
@@ -275,40 +287,40 @@ const UNOPENED: [Case; 1] = [Case {
 }];
 
 /// All of them.
-pub(crate) const LIVES: [Lives; 7] = [
+pub(crate) static LIVES: [Lives; 7] = [
     Lives {
         journal: b"",
-        failing: None,
+        failing: 0,
         cases: &OVER_FILES,
     },
     Lives {
         journal: b"",
-        failing: None,
+        failing: 0,
         cases: &WITH_NODES,
     },
     Lives {
         journal: b"",
-        failing: None,
+        failing: 0,
         cases: &STARTED_AGAIN,
     },
     Lives {
         journal: b"RCJ1othertag\0",
-        failing: None,
+        failing: 0,
         cases: &NO_JOURNAL,
     },
     Lives {
         journal: b"",
-        failing: Some(1),
+        failing: 1,
         cases: &UNOPENED,
     },
     Lives {
         journal: b"",
-        failing: Some(2),
+        failing: 2,
         cases: &UNOPENED,
     },
     Lives {
         journal: b"",
-        failing: Some(3),
+        failing: 3,
         cases: &UNOPENED,
     },
 ];

@@ -10,4 +10,6 @@ mod outside;
 #[cfg(test)]
 mod runs;
 #[cfg(test)]
+mod same;
+#[cfg(test)]
 mod texts;

@@ -1,6 +1,6 @@
 //! Commands with nodes, of which a call of the link, of a child or of the log fails.
 use crate::cases::Case;
-use crate::outside::{Of, Packet};
+use crate::outside::{Failing, NOTHING, Packet};
 use crate::texts::{
     CALLER, FIRST_SHARD, HALF_A_START, LOG_OF_A_START, SECOND_SHARD, START, STARTOK, STOP,
     STOP_OF_TRANSFERS, STRANGE_START,
@@ -29,7 +29,7 @@ pub(crate) const WITH_NODES: [Case; 9] = [
         words: &[
             "serve", "add.rcw", "add.toml", "--shard", "0", "--turns", "9",
         ],
-        failing: Some((Of::Link, 1)),
+        failing: Failing { link: 1, ..NOTHING },
         arrivals: &ROUND,
         status: 8,
         out: b"",
@@ -42,7 +42,7 @@ pub(crate) const WITH_NODES: [Case; 9] = [
         words: &[
             "serve", "add.rcw", "add.toml", "--shard", "0", "--turns", "9",
         ],
-        failing: Some((Of::Link, 3)),
+        failing: Failing { link: 3, ..NOTHING },
         arrivals: &ROUND,
         status: 8,
         out: b"serving 0\n",
@@ -55,7 +55,10 @@ pub(crate) const WITH_NODES: [Case; 9] = [
         words: &[
             "serve", "add.rcw", "add.toml", "--shard", "0", "--turns", "9",
         ],
-        failing: Some((Of::Sends, 1)),
+        failing: Failing {
+            sends: 1,
+            ..NOTHING
+        },
         arrivals: &ROUND,
         status: 0,
         out: b"serving 0\nend 0 stop taken 3 skipped 1\n",
@@ -73,7 +76,10 @@ pub(crate) const WITH_NODES: [Case; 9] = [
             "--turns",
             "3",
         ],
-        failing: Some((Of::Children, 2)),
+        failing: Failing {
+            children: 2,
+            ..NOTHING
+        },
         arrivals: &[],
         status: 9,
         out: b"",
@@ -91,7 +97,10 @@ pub(crate) const WITH_NODES: [Case; 9] = [
             "--turns",
             "3",
         ],
-        failing: Some((Of::Children, 2)),
+        failing: Failing {
+            children: 2,
+            ..NOTHING
+        },
         arrivals: &[],
         status: 9,
         out: b"end 0 answered 0 unanswered 0 unsubmitted\n",
@@ -108,7 +117,7 @@ pub(crate) const WITH_NODES: [Case; 9] = [
         words: &[
             "serve", "add.rcw", "add.toml", "--shard", "0", "--turns", "9", "--log", "l",
         ],
-        failing: None,
+        failing: NOTHING,
         arrivals: &[(CALLER, START), (CALLER, STOP)],
         status: 0,
         out: b"serving 0\nend 0 stop taken 2 skipped 0\n",
@@ -121,7 +130,7 @@ pub(crate) const WITH_NODES: [Case; 9] = [
         words: &[
             "serve", "add.rcw", "add.toml", "--shard", "0", "--turns", "9", "--log", "l",
         ],
-        failing: Some((Of::Log, 1)),
+        failing: Failing { log: 1, ..NOTHING },
         arrivals: &[(CALLER, START)],
         status: 13,
         out: b"",
@@ -134,7 +143,7 @@ pub(crate) const WITH_NODES: [Case; 9] = [
         words: &[
             "serve", "add.rcw", "add.toml", "--shard", "0", "--turns", "9", "--log", "l",
         ],
-        failing: Some((Of::Log, 3)),
+        failing: Failing { log: 3, ..NOTHING },
         arrivals: &[(CALLER, START)],
         status: 13,
         out: b"serving 0\n",
@@ -157,7 +166,7 @@ pub(crate) const WITH_NODES: [Case; 9] = [
             "--journal",
             "j",
         ],
-        failing: None,
+        failing: NOTHING,
         arrivals: &[(CALLER, START)],
         status: 2,
         out: b"",

@@ -1,72 +1,68 @@
 //! Runs of the program over the outside in memory: statuses, what is written, sent, awaited and logged.
 use crate::cases::{Case, LIVES, Lives};
-use crate::outside::{Nodes, Packet, Streams, disk_of, nodes_of, status_of, streams_of};
+use crate::outside::{Outside, Packet, disk_of, hold, outside_of, status_of};
+use crate::same::{same, same_items};
 use roc_disk_memory::MemDisk;
-use roc_io::Datagram;
-use roc_io_memory::MemSpawner;
+use roc_io::{ChildWait, Datagram};
 use std::alloc::Global;
 use std::process::Abort;
-use std::test::Fail;
 
 fn are_sent(rt: &impl Abort, sent: &[Datagram], wanted: &[Packet]) {
-    assert_eq!(rt; sent.len(), wanted.len());
+    same(rt, "how many are sent", &sent.len(), &wanted.len());
     for (datagram, (to, bytes)) in sent.iter().zip(wanted) {
-        assert_eq!(rt; datagram.address(), *to);
-        assert_eq!(rt; datagram.bytes(), *bytes);
+        same(rt, "whom one is sent to", &datagram.address(), to);
+        same_items(rt, "what is sent", datagram.bytes(), bytes);
     }
 }
 
-fn are_awaited(rt: &impl Abort, children: &MemSpawner, wanted: &[u64]) -> Result<(), Fail> {
-    let awaited = children.awaited().ok_or("told")?;
-    assert_eq!(rt; awaited.len(), wanted.len());
+fn are_awaited(rt: &impl Abort, awaited: &[ChildWait], wanted: &[u64]) {
+    same(rt, "how many are awaited", &awaited.len(), &wanted.len());
     for (wait, number) in awaited.iter().zip(wanted) {
-        assert_eq!(rt; wait.child.number(), *number);
+        same(rt, "who is awaited", &wait.child.number(), number);
     }
-    Ok(())
 }
 
-fn have_seen(rt: &impl Abort, streams: &Streams, nodes: &Nodes, case: &Case) -> Result<(), Fail> {
-    let status = case.status;
-    assert_eq!(rt; streams.out.bytes(), Some(case.out), "of {status}");
-    assert_eq!(rt; streams.err.bytes(), Some(case.err), "of {status}");
-    assert_eq!(rt; nodes.book.bytes(), Some(case.log), "of {status}");
-    are_sent(rt, nodes.link.sent().ok_or("told")?, case.sent);
-    are_awaited(rt, &nodes.children, case.awaited)
-}
-
-fn ends(
-    rt: &impl Abort,
-    alloc: Global,
-    case: &Case,
-    streams: &mut Streams,
-    nodes: &mut Nodes,
-    disk: &mut MemDisk,
-) -> Result<(), Fail> {
-    assert_eq!(rt;
-        status_of(alloc, case.words, streams, nodes, disk)?,
-        case.status
+fn have_seen(rt: &impl Abort, outside: &Outside, case: &Case) {
+    let out = outside.out.bytes().expect(rt, "told");
+    same_items(rt, "the output", out, case.out);
+    let line = outside.err.bytes().expect(rt, "told");
+    same_items(rt, "the line", line, case.err);
+    let log = outside.book.bytes().expect(rt, "told");
+    same_items(rt, "the log", log, case.log);
+    are_sent(rt, outside.link.sent().expect(rt, "told"), case.sent);
+    are_awaited(
+        rt,
+        outside.children.awaited().expect(rt, "told"),
+        case.awaited,
     );
-    have_seen(rt, streams, nodes, case)
 }
 
-fn runs(rt: &impl Abort, alloc: Global, case: &Case, disk: &mut MemDisk) -> Result<(), Fail> {
-    let mut streams = streams_of(alloc, case.failing)?;
-    let mut nodes = nodes_of(alloc, case.arrivals, case.failing)?;
-    ends(rt, alloc, case, &mut streams, &mut nodes, disk)
+fn ends(rt: &impl Abort, alloc: Global, case: &Case, outside: &mut Outside, disk: &mut MemDisk) {
+    let status = status_of(rt, alloc, case.words, outside, disk);
+    same(rt, "the status", &status, &case.status);
+    have_seen(rt, outside, case);
 }
 
-fn live(rt: &impl Abort, alloc: Global, lives: &Lives) -> Result<(), Fail> {
-    let mut disk = disk_of(rt, alloc, lives.journal, lives.failing)?;
+fn runs(rt: &impl Abort, alloc: Global, case: &Case, disk: &mut MemDisk) {
+    let mut outside = outside_of(rt, alloc, case.arrivals, &case.failing);
+    ends(rt, alloc, case, &mut outside, disk);
+}
+
+fn live(rt: &impl Abort, alloc: Global, lives: &Lives, disk: &mut MemDisk) {
+    hold(rt, disk, lives.journal);
     for case in lives.cases {
-        runs(rt, alloc, case, &mut disk)?;
+        runs(rt, alloc, case, disk);
     }
-    Ok(())
 }
 
 #[test]
-fn statuses_tell_what_came(rt: HostRuntime) -> Result<(), Fail> {
+fn statuses_tell_what_came(rt: HostRuntime) {
     for lives in &LIVES {
-        live(&rt, rt.alloc(), lives)?;
+        live(
+            &rt,
+            rt.alloc(),
+            lives,
+            &mut disk_of(&rt, rt.alloc(), lives.failing),
+        );
     }
-    Ok(())
 }

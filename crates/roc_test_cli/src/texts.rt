@@ -87,7 +87,7 @@ port = 7001
 ";
 
 /// The files that there are.
-pub(crate) const FILES: [(&str, &[u8]); 10] = [
+pub(crate) static FILES: [(&str, &[u8]); 10] = [
     ("add.rcw", COUNTER),
     ("add.rcs", SCHEDULE),
     ("add.toml", ONE_SHARD),

@@ -3,40 +3,33 @@ ghost use Rattle.roc_coord.specs.Fits.{CoordFits};
 
 use crate::datagrams::{
     COMMIT, COMMITOK_7, COMMITOK_7_8, FIRST_READ, READOK_1, READOK_2, READOK_GROUP_1, READOK_OTHER,
-    READOK_SHARD_1, READOK_VERSIONS, STARTOK, STARTOK_OTHER, STARTOK_SHARD_1, STOP,
+    READOK_SHARD_1, READOK_VERSIONS, STARTOK, STARTOK_OTHER, STARTOK_SHARD_1, STOP, message_of,
 };
-use crate::workloads::{COUNTER, LOOKED_AT};
+use crate::holds::holds;
+use crate::workloads::{COUNTER, LOOKED_AT, plan_of};
 use roc_base::TxnId;
-use roc_check::check;
 use roc_coord::{Coord, Handled, SubmitFault};
-use roc_msg::{Msg, NodeFault, Outbox, Reason};
+use roc_msg::{NodeFault, Outbox, Reason};
 use roc_plan::Plan;
-use roc_wire::decode;
 use std::alloc::Global;
 use std::process::Abort;
-use std::test::Fail;
 
-// What is answered to a message.
-#[derive(Clone, Copy, Debug, PartialEq, Eq)]
+// What is answered to a message, or to a submission: the sequence of its id, or a fault.
+#[derive(Clone, Copy, PartialEq)]
 enum Answer {
     Taken,
     Replied,
     Ignored(Reason),
+    As(u32),
+    Refused(SubmitFault),
     None,
 }
 
 // A datagram, and what is answered to its message.
 type Row = (&'static [u8], Answer);
 
-// What is answered to a submission: the sequence of its id, or a fault.
-#[derive(Clone, Copy, Debug, PartialEq, Eq)]
-enum Submitted {
-    As(u32),
-    Refused(SubmitFault),
-}
-
 // A call, and what is answered to its submission.
-type Call = (u16, &'static [i64], Submitted);
+type Call = (u16, &'static [i64], Answer);
 
 // A workload, the calls that are submitted in turn, what comes then, and how many are unanswered at the end.
 struct Case {
@@ -50,7 +43,7 @@ struct Case {
 const FORGED: Case = Case {
     name: "forged messages are ignored",
     text: COUNTER,
-    calls: &[(0, &[0], Submitted::As(0))],
+    calls: &[(0, &[0], Answer::As(0))],
     rows: &[
         (COMMIT, Answer::Ignored(Reason::Foreign)),
         (STOP, Answer::Ignored(Reason::Foreign)),
@@ -66,7 +59,7 @@ const FORGED: Case = Case {
 const READS: Case = Case {
     name: "answers to reads are ignored for a fault",
     text: LOOKED_AT,
-    calls: &[(1, &[0], Submitted::As(0))],
+    calls: &[(1, &[0], Answer::As(0))],
     rows: &[
         (STARTOK, Answer::Ignored(Reason::Unfit)),
         (COMMITOK_7, Answer::Ignored(Reason::Unfit)),
@@ -86,7 +79,7 @@ const READS: Case = Case {
 const REPEATED: Case = Case {
     name: "repeated messages are ignored",
     text: COUNTER,
-    calls: &[(0, &[0], Submitted::As(0))],
+    calls: &[(0, &[0], Answer::As(0))],
     rows: &[
         (STARTOK, Answer::Taken),
         (STARTOK, Answer::Ignored(Reason::Stale)),
@@ -101,31 +94,31 @@ const REFUSED: Case = Case {
     name: "submissions are refused for a fault",
     text: COUNTER,
     calls: &[
-        (1, &[1], Submitted::Refused(SubmitFault::NoProc)),
-        (0, &[1, 2], Submitted::Refused(SubmitFault::Args)),
-        (0, &[1], Submitted::As(0)),
-        (0, &[1], Submitted::As(1)),
-        (0, &[1], Submitted::As(2)),
-        (0, &[1], Submitted::As(3)),
-        (0, &[1], Submitted::As(4)),
-        (0, &[1], Submitted::As(5)),
-        (0, &[1], Submitted::As(6)),
-        (0, &[1], Submitted::As(7)),
-        (0, &[1], Submitted::As(8)),
-        (0, &[1], Submitted::As(9)),
-        (0, &[1], Submitted::As(10)),
-        (0, &[1], Submitted::As(11)),
-        (0, &[1], Submitted::As(12)),
-        (0, &[1], Submitted::As(13)),
-        (0, &[1], Submitted::As(14)),
-        (0, &[1], Submitted::As(15)),
-        (0, &[1], Submitted::Refused(SubmitFault::Busy)),
+        (1, &[1], Answer::Refused(SubmitFault::NoProc)),
+        (0, &[1, 2], Answer::Refused(SubmitFault::Args)),
+        (0, &[1], Answer::As(0)),
+        (0, &[1], Answer::As(1)),
+        (0, &[1], Answer::As(2)),
+        (0, &[1], Answer::As(3)),
+        (0, &[1], Answer::As(4)),
+        (0, &[1], Answer::As(5)),
+        (0, &[1], Answer::As(6)),
+        (0, &[1], Answer::As(7)),
+        (0, &[1], Answer::As(8)),
+        (0, &[1], Answer::As(9)),
+        (0, &[1], Answer::As(10)),
+        (0, &[1], Answer::As(11)),
+        (0, &[1], Answer::As(12)),
+        (0, &[1], Answer::As(13)),
+        (0, &[1], Answer::As(14)),
+        (0, &[1], Answer::As(15)),
+        (0, &[1], Answer::Refused(SubmitFault::Busy)),
     ],
     rows: &[],
     unanswered: 16,
 };
 
-const CASES: [Case; 4] = [FORGED, READS, REPEATED, REFUSED];
+static CASES: [Case; 4] = [FORGED, READS, REPEATED, REFUSED];
 
 fn answer_of(answer: Result<Handled, NodeFault>) -> Answer {
     match answer {
@@ -136,28 +129,26 @@ fn answer_of(answer: Result<Handled, NodeFault>) -> Answer {
     }
 }
 
-fn submission_of(answer: Result<TxnId, SubmitFault>) -> Submitted {
+fn submission_of(answer: Result<TxnId, SubmitFault>) -> Answer {
     match answer {
-        Ok(id) => Submitted::As(id.seq),
-        Err(fault) => Submitted::Refused(fault),
+        Ok(id) => Answer::As(id.seq),
+        Err(fault) => Answer::Refused(fault),
     }
 }
 
-fn handles(plan: &Plan, coord: &mut Coord, msg: &Msg, outbox: &mut Outbox) -> Answer
+fn takes(
+    rt: &impl Abort,
+    alloc: Global,
+    plan: &Plan,
+    coord: &mut Coord,
+    bytes: &[u8],
+    outbox: &mut Outbox,
+) -> Answer
     requires fits { CoordFits plan.now coord.old }
     ensures { CoordFits plan.now coord.new }
 {
-    answer_of(coord.handle(plan, msg, outbox))
-}
-
-fn takes(alloc: Global, plan: &Plan, coord: &mut Coord, bytes: &[u8], outbox: &mut Outbox) -> Answer
-    requires fits { CoordFits plan.now coord.old }
-    ensures { CoordFits plan.now coord.new }
-{
-    match decode(alloc, bytes) {
-        Ok((_, msg)) => handles(plan, coord, &msg, outbox),
-        Err(_) => Answer::None,
-    }
+    let msg = message_of(rt, alloc, bytes);
+    answer_of(coord.handle(plan, &msg, outbox))
 }
 
 fn takes_all(
@@ -172,12 +163,8 @@ fn takes_all(
     ensures { CoordFits plan.now coord.new }
 {
     for (bytes, wanted) in case.rows {
-        assert_eq!(rt;
-            takes(alloc, plan, coord, bytes, outbox),
-            *wanted,
-            "{}",
-            case.name
-        );
+        let answer = takes(rt, alloc, plan, coord, bytes, outbox);
+        holds(rt, case.name, answer == *wanted);
     }
 }
 
@@ -187,30 +174,34 @@ fn submits(rt: &impl Abort, plan: &Plan, coord: &mut Coord, case: &Case, outbox:
 {
     for (proc, args, wanted) in case.calls {
         let answer = submission_of(coord.submit(plan, *proc, args, outbox));
-        assert_eq!(rt; answer, *wanted, "{}", case.name);
+        holds(rt, case.name, answer == *wanted);
     }
 }
 
-fn coordinates(rt: &impl Abort, alloc: Global, plan: &Plan, coord: &mut Coord, case: &Case)
+fn coordinates(
+    rt: &impl Abort,
+    alloc: Global,
+    plan: &Plan,
+    coord: &mut Coord,
+    case: &Case,
+    outbox: &mut Outbox,
+)
     requires fits { CoordFits plan.now coord.old }
-    ensures { CoordFits plan.now coord.new }
 {
-    let mut outbox = Outbox::new(alloc);
-    submits(rt, plan, coord, case, &mut outbox);
-    takes_all(rt, alloc, plan, coord, case, &mut outbox);
-    assert_eq!(rt; coord.unanswered().len(), case.unanswered, "{}", case.name);
+    submits(rt, plan, coord, case, outbox);
+    takes_all(rt, alloc, plan, coord, case, outbox);
+    holds(rt, case.name, coord.unanswered().len() == case.unanswered);
 }
 
-fn coordinates_first(rt: &impl Abort, alloc: Global, plan: &Plan, case: &Case) {
+fn coordinates_first(rt: &impl Abort, alloc: Global, case: &Case) {
+    let plan = plan_of(rt, alloc, case.text);
     let mut coord = Coord::new(alloc, 0);
-    coordinates(rt, alloc, plan, &mut coord, case);
+    coordinates(rt, alloc, &plan, &mut coord, case, &mut Outbox::new(alloc));
 }
 
 #[test]
-fn coordinators_answer(rt: HostRuntime) -> Result<(), Fail> {
+fn coordinators_answer(rt: HostRuntime) {
     for case in &CASES {
-        let plan = check(rt.alloc(), case.text)?;
-        coordinates_first(&rt, rt.alloc(), &plan, case);
+        coordinates_first(&rt, rt.alloc(), case);
     }
-    Ok(())
 }

@@ -1,4 +1,8 @@
 //! Datagrams, each with a tag of zeros: an id is written COORDINATOR.SEQUENCE.
+use roc_msg::Msg;
+use roc_wire::decode;
+use std::alloc::Global;
+use std::process::Abort;
 
 /// 0.0 starts group 0 of procedure 0 with the argument 5.
 pub(crate) const START: &[u8] =
@@ -139,3 +143,8 @@ pub(crate) const READOK_SHARD_1: &[u8] =
 /// The answer has two versions.
 pub(crate) const READOK_VERSIONS: &[u8] =
     b"RCO1\x02\x0b\0\0\0\0\0\0\0\0\x01\0\0\0\0\0\0\0\0\0\0\0\x01\0\0\0\0\x02\0\0\0\0\0\0\0\0\0\0\0\0\0\0\0\0\0\x01\0\0\0\0\0\0\0\x05";
+
+/// The message of a datagram.
+pub(crate) fn message_of(rt: &impl Abort, alloc: Global, bytes: &[u8]) -> Msg {
+    decode(alloc, bytes).expect(rt, "a datagram").1
+}

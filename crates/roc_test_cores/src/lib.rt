@@ -7,6 +7,8 @@ mod coordinators;
 #[cfg(test)]
 mod datagrams;
 #[cfg(test)]
+mod holds;
+#[cfg(test)]
 mod servers;
 #[cfg(test)]
 mod whole_runs;

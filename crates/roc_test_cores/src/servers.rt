@@ -6,25 +6,23 @@ ghost use Rattle.roc_step.specs.Fits.{ServerFits};
 use crate::datagrams::{
     CIRCLE, CIRCLE_BACK, COMMIT, COMMIT_BEHIND, COMMITOK, ENDED_2, ENDED_3, FETCH, KNOWN, NO_ARGS,
     NO_GROUP, NO_PROC, READ, READ_GROUP_1, READ_NO_ARGS, READ_OF_0, READ_OF_2, READ_PLACE_1,
-    READOK, SECOND_START, SETTLED, START, START_AGAIN, STOP, TORN_COMMIT,
+    READOK, SECOND_START, SETTLED, START, START_AGAIN, STOP, TORN_COMMIT, message_of,
 };
-use crate::workloads::{COUNTER, LOOKED_AT, TWINS};
+use crate::holds::holds;
+use crate::workloads::{COUNTER, LOOKED_AT, TWINS, plan_of};
 use roc_base::{Edges, Key, Shard, Steps, TxnId};
-use roc_check::check;
 use roc_group::Access;
-use roc_msg::{Msg, NodeFault, Outbox, Reason};
+use roc_msg::{NodeFault, Outbox, Reason};
 use roc_plan::{Class, Plan};
 use roc_rows::Cell;
 use roc_server::{Handled, Server};
-use roc_wire::decode;
 use std::alloc::Global;
 use std::marker::Brand;
 use std::process::Abort;
 use std::sync::ledger::{Blank, Ledger};
-use std::test::Fail;
 
 // What is answered to a message.
-#[derive(Clone, Copy, Debug, PartialEq, Eq)]
+#[derive(Clone, Copy, PartialEq)]
 enum Answer {
     Done,
     Gone,
@@ -43,7 +41,8 @@ struct Case {
     rows: &'static [Row],
     sent: usize,
     waiting: usize,
-    preceding: [&'static [TxnId]; 2],
+    deferrable: &'static [TxnId],
+    immediate: &'static [TxnId],
 }
 
 const FIRST: TxnId = TxnId { coord: 0, seq: 0 };
@@ -65,7 +64,8 @@ const FORGED: Case = Case {
     ],
     sent: 0,
     waiting: 0,
-    preceding: [&[], &[]],
+    deferrable: &[],
+    immediate: &[],
 };
 
 const WAITING: Case = Case {
@@ -74,7 +74,8 @@ const WAITING: Case = Case {
     rows: &[(START, Answer::Done)],
     sent: 1,
     waiting: 1,
-    preceding: [&[FIRST], &[]],
+    deferrable: &[FIRST],
+    immediate: &[],
 };
 
 const READS: Case = Case {
@@ -94,7 +95,8 @@ const READS: Case = Case {
     ],
     sent: 3,
     waiting: 0,
-    preceding: [&[], &[]],
+    deferrable: &[],
+    immediate: &[],
 };
 
 const REPEATED: Case = Case {
@@ -109,7 +111,8 @@ const REPEATED: Case = Case {
     ],
     sent: 4,
     waiting: 0,
-    preceding: [&[], &[]],
+    deferrable: &[],
+    immediate: &[],
 };
 
 const UNLIKE: Case = Case {
@@ -123,7 +126,8 @@ const UNLIKE: Case = Case {
     ],
     sent: 2,
     waiting: 1,
-    preceding: [&[FIRST], &[]],
+    deferrable: &[FIRST],
+    immediate: &[],
 };
 
 const LATE: Case = Case {
@@ -137,7 +141,8 @@ const LATE: Case = Case {
     ],
     sent: 3,
     waiting: 0,
-    preceding: [&[], &[]],
+    deferrable: &[],
+    immediate: &[],
 };
 
 const CIRCLES: Case = Case {
@@ -151,7 +156,8 @@ const CIRCLES: Case = Case {
     ],
     sent: 4,
     waiting: 0,
-    preceding: [&[], &[]],
+    deferrable: &[],
+    immediate: &[],
 };
 
 const HEARD: Case = Case {
@@ -165,10 +171,11 @@ const HEARD: Case = Case {
     ],
     sent: 0,
     waiting: 0,
-    preceding: [&[], &[]],
+    deferrable: &[],
+    immediate: &[],
 };
 
-const CASES: [Case; 8] = [
+static CASES: [Case; 8] = [
     FORGED, WAITING, READS, REPEATED, UNLIKE, LATE, CIRCLES, HEARD,
 ];
 
@@ -182,29 +189,20 @@ fn answer_of(answer: Result<Handled, NodeFault>) -> Answer {
 }
 
 // Has a message made ahead, and then handled: both are answered alike.
-fn handles(plan: &Plan, server: &mut Server, msg: &Msg, outbox: &mut Outbox) -> Answer
-    requires fits { ServingFits plan.now server.old }
-    ensures { ServingFits plan.now server.new }
-{
-    let ahead = answer_of(server.ready(plan, msg, outbox));
-    let now = answer_of(server.handle(plan, msg, outbox));
-    if ahead == now { now } else { Answer::None }
-}
-
 fn takes(
+    rt: &impl Abort,
     alloc: Global,
     plan: &Plan,
     server: &mut Server,
     bytes: &[u8],
     outbox: &mut Outbox,
-) -> Answer
+) -> (Answer, Answer)
     requires fits { ServingFits plan.now server.old }
     ensures { ServingFits plan.now server.new }
 {
-    match decode(alloc, bytes) {
-        Ok((_, msg)) => handles(plan, server, &msg, outbox),
-        Err(_) => Answer::None,
-    }
+    let msg = message_of(rt, alloc, bytes);
+    let ahead = answer_of(server.ready(plan, &msg, outbox));
+    (ahead, answer_of(server.handle(plan, &msg, outbox)))
 }
 
 fn takes_all(
@@ -219,12 +217,8 @@ fn takes_all(
     ensures { ServingFits plan.now server.new }
 {
     for (bytes, wanted) in case.rows {
-        assert_eq!(rt;
-            takes(alloc, plan, server, bytes, outbox),
-            *wanted,
-            "{}",
-            case.name
-        );
+        let (ahead, now) = takes(rt, alloc, plan, server, bytes, outbox);
+        holds(rt, case.name, ahead == *wanted && now == *wanted);
     }
 }
 
@@ -268,43 +262,36 @@ fn precede(plan: &Plan, server: &Server, class: Class, wanted: &[TxnId]) -> bool
 fn tells(rt: &impl Abort, plan: &Plan, server: &Server, case: &Case)
     requires fits { ServerFits plan.now server.now.state }
 {
-    assert!(rt;
-        precede(plan, server, Class::Deferrable, case.preceding[0]),
-        "{}",
-        case.name
-    );
-    assert!(rt;
-        precede(plan, server, Class::Immediate, case.preceding[1]),
-        "{}",
-        case.name
-    );
-    match server.waiting(plan) {
-        Ok(waiting) => assert_eq!(rt; waiting.len(), case.waiting, "{}", case.name),
-        Err(_) => panic!(rt; "no memory"),
-    }
+    let deferrable = precede(plan, server, Class::Deferrable, case.deferrable);
+    holds(rt, case.name, deferrable);
+    let immediate = precede(plan, server, Class::Immediate, case.immediate);
+    holds(rt, case.name, immediate);
+    let waiting = server.waiting(plan).expect(rt, "memory");
+    holds(rt, case.name, waiting.len() == case.waiting);
 }
 
 fn serves(rt: &impl Abort, alloc: Global, plan: &Plan, server: &mut Server, case: &Case)
     requires fits { ServingFits plan.now server.old }
-    ensures { ServingFits plan.now server.new }
 {
     let mut outbox = Outbox::new(alloc);
     takes_all(rt, alloc, plan, server, case, &mut outbox);
-    assert_eq!(rt; outbox.messages().len(), case.sent, "{}", case.name);
+    holds(rt, case.name, outbox.messages().len() == case.sent);
     tells(rt, plan, server, case);
 }
 
-fn serves_first(rt: &impl Abort, alloc: Global, plan: &Plan, case: &Case) -> Result<(), Fail> {
-    let mut server = Server::new(alloc, plan, Shard(0))?;
+fn serves_first(rt: &impl Abort, alloc: Global, plan: &Plan, case: &Case) {
+    let mut server = Server::new(alloc, plan, Shard(0)).expect(rt, "a server");
     serves(rt, alloc, plan, &mut server, case);
-    Ok(())
+}
+
+fn serves_case(rt: &impl Abort, alloc: Global, case: &Case) {
+    let plan = plan_of(rt, alloc, case.text);
+    serves_first(rt, alloc, &plan, case);
 }
 
 #[test]
-fn servers_answer_and_tell(rt: HostRuntime) -> Result<(), Fail> {
+fn servers_answer_and_tell(rt: HostRuntime) {
     for case in &CASES {
-        let plan = check(rt.alloc(), case.text)?;
-        serves_first(&rt, rt.alloc(), &plan, case)?;
+        serves_case(&rt, rt.alloc(), case);
     }
-    Ok(())
 }

@@ -1,12 +1,12 @@
 //! Whole runs of procedures, which no command makes: the replies and cells that the serial order is judged by.
+use crate::holds::holds;
+use crate::workloads::plan_of;
 use roc_base::{Key, Nums};
-use roc_check::check;
 use roc_program::Workload;
 use roc_rows::{Cell, Rows};
 use roc_whole::{run_whole, start_rows};
 use std::alloc::Global;
 use std::process::Abort;
-use std::test::Fail;
 
 /// The first init line of a cell is overwritten by the later one.
 const TRANSFER: &[u8] = b"shards 2;
@@ -44,7 +44,7 @@ type Call = (&'static [i64], &'static [i64]);
 // Calls in order from the start of a workload, behind which these columns 0 of rows 0 are not 0, by table and place.
 type Case = (&'static [u8], &'static [Call], &'static [(u8, i64, i64)]);
 
-const CASES: [Case; 3] = [
+static CASES: [Case; 3] = [
     (
         TRANSFER,
         &[(&[0, 1, 10], &[100, 50]), (&[1, 0, 5], &[60, 90])],
@@ -73,43 +73,38 @@ fn replies(
     workload: &Workload,
     rows: &mut Rows,
     (args, wanted): Call,
-) -> Result<(), Fail> {
-    let mut reply = Nums::new(alloc);
+    reply: &mut Nums,
+) {
     assert!(rt; !workload.procedures().is_empty());
-    assert_eq!(rt; workload.procedures()[0].arguments as usize, args.len());
-    run_whole(alloc, workload, rows, 0, args, &mut reply)?;
-    assert_eq!(rt; reply.as_slice(), wanted);
-    Ok(())
+    assert!(rt; workload.procedures()[0].arguments as usize == args.len());
+    run_whole(alloc, workload, rows, 0, args, reply).expect(rt, "memory");
+    holds(rt, "a reply", reply.as_slice() == wanted);
 }
 
-fn runs(
-    rt: &impl Abort,
-    alloc: Global,
-    workload: &Workload,
-    rows: &mut Rows,
-    (_, calls, cells): Case,
-) -> Result<(), Fail> {
-    for call in calls {
-        replies(rt, alloc, workload, rows, *call)?;
+fn are_cells(rt: &impl Abort, found: &[(Cell, i64)], wanted: &[(u8, i64, i64)]) {
+    holds(rt, "how many cells", found.len() == wanted.len());
+    for (found, (table, place, number)) in found.iter().zip(wanted) {
+        holds(rt, "a cell", *found == (cell(*table, *place), *number));
     }
-    let found = rows.nonzero()?;
-    assert_eq!(rt; found.len(), cells.len());
-    for (at, (table, place, number)) in cells.iter().enumerate() {
-        assert_eq!(rt; found[at], (cell(*table, *place), *number));
-    }
-    Ok(())
 }
 
-fn starts(rt: &impl Abort, alloc: Global, workload: &Workload, case: Case) -> Result<(), Fail> {
-    let mut rows = start_rows(alloc, workload)?;
-    runs(rt, alloc, workload, &mut rows, case)
+fn runs(rt: &impl Abort, alloc: Global, workload: &Workload, rows: &mut Rows, case: &Case) {
+    for call in case.1 {
+        replies(rt, alloc, workload, rows, *call, &mut Nums::new(alloc));
+    }
+    let found = rows.nonzero().expect(rt, "memory");
+    are_cells(rt, &found, case.2);
+}
+
+fn starts(rt: &impl Abort, alloc: Global, case: &Case) {
+    let plan = plan_of(rt, alloc, case.0);
+    let mut rows = start_rows(alloc, plan.workload()).expect(rt, "memory");
+    runs(rt, alloc, plan.workload(), &mut rows, case);
 }
 
 #[test]
-fn procedures_run_whole(rt: HostRuntime) -> Result<(), Fail> {
-    for case in CASES {
-        let plan = check(rt.alloc(), case.0)?;
-        starts(&rt, rt.alloc(), plan.workload(), case)?;
+fn procedures_run_whole(rt: HostRuntime) {
+    for case in &CASES {
+        starts(&rt, rt.alloc(), case);
     }
-    Ok(())
 }

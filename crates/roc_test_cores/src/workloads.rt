@@ -1,4 +1,8 @@
 //! Workloads of the tests.
+use roc_check::check;
+use roc_plan::Plan;
+use std::alloc::Global;
+use std::process::Abort;
 
 /// One counter on one shard.
 pub(crate) const COUNTER: &[u8] = b"shards 1;
@@ -22,3 +26,8 @@ table t { x }
 proc add(n) { later a at 0 { get v = t[0].x; set t[0].x = v + n; out v; } }
 proc look(p) view { later a at p { get v = t[0].x; out v; } }
 ";
+
+/// The plan of a text.
+pub(crate) fn plan_of(rt: &impl Abort, alloc: Global, text: &[u8]) -> Plan {
+    check(alloc, text).expect(rt, "a plan")
+}

@@ -5,6 +5,8 @@
 #[cfg(test)]
 mod coordinators;
 #[cfg(test)]
+mod holds;
+#[cfg(test)]
 mod messages;
 #[cfg(test)]
 mod servers;

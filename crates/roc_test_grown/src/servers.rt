@@ -2,25 +2,15 @@
 ghost use Rattle.std.specs.Option.{option_copied};
 ghost use Rattle.roc_grown.specs.Fits.{GrownServerFits};
 
-use crate::messages::{COUNTER, Message, Told, message_of, next_of, told_by};
+use crate::holds::holds;
+use crate::messages::{Answer, COUNTER, Message, Told, message_of, next_of, plan_of, tells};
 use roc_base::Shard;
-use roc_check::check;
 use roc_epoch::{File, Next};
 use roc_grown::{GrownHandled, GrownServer};
-use roc_msg::{Msg, NodeFault, Outbox, Reason};
+use roc_msg::{NodeFault, Outbox, Reason};
 use roc_plan::Plan;
 use std::alloc::Global;
 use std::process::Abort;
-use std::test::Fail;
-
-// What is answered to a message.
-#[derive(Clone, Copy, Debug, PartialEq, Eq)]
-enum Answer {
-    Done,
-    Skipped,
-    Ignored(Reason),
-    Other,
-}
 
 // A message of a file, what is answered, and what it makes the server tell.
 type Row = (File, Message, Answer, &'static [Told]);
@@ -28,14 +18,12 @@ type Row = (File, Message, Answer, &'static [Told]);
 // Messages that come in turn, to a server of which two coordinators are known.
 struct Case {
     name: &'static str,
-    has_next: bool,
     rows: &'static [Row],
     switched: bool,
 }
 
-const ALONE: Case = Case {
+static ALONE: Case = Case {
     name: "where nothing comes next, each drained is foreign",
-    has_next: false,
     rows: &[
         (
             File::Neither,
@@ -55,9 +43,8 @@ const ALONE: Case = Case {
     switched: false,
 };
 
-const ONE_TOLD: Case = Case {
+static ONE_TOLD: Case = Case {
     name: "one of two has told, again and again",
-    has_next: true,
     rows: &[
         (File::Neither, Message::Drained(0, 3), Answer::Done, &[]),
         (File::Neither, Message::Drained(0, 3), Answer::Done, &[]),
@@ -85,9 +72,8 @@ const ONE_TOLD: Case = Case {
     switched: false,
 };
 
-const BOTH_TOLD: Case = Case {
+static BOTH_TOLD: Case = Case {
     name: "both have told: the first of each counts, and who tells later is answered alone",
-    has_next: true,
     rows: &[
         (File::Neither, Message::Drained(1, 4), Answer::Done, &[]),
         (File::Neither, Message::Drained(1, 7), Answer::Done, &[]),
@@ -116,69 +102,65 @@ const BOTH_TOLD: Case = Case {
     switched: true,
 };
 
-const CASES: [Case; 3] = [ALONE, ONE_TOLD, BOTH_TOLD];
-
 fn answer_of(answer: Result<GrownHandled, NodeFault>) -> Answer {
     match answer {
         Ok(GrownHandled::Done) => Answer::Done,
         Ok(GrownHandled::Skipped) => Answer::Skipped,
         Ok(GrownHandled::Ignored(reason)) => Answer::Ignored(reason),
-        _ => Answer::Other,
+        Ok(GrownHandled::Gone) => Answer::Other,
+        Err(_) => Answer::Failed,
     }
 }
 
-// A call that wants memory leaves the outbox, and is made again.
-fn handles(
-    rt: &impl Abort,
+fn comes(
     plan: &Plan,
     next: Option<&Next>,
     server: &mut GrownServer,
-    file: File,
-    msg: &Msg,
+    row: &Row,
     outbox: &mut Outbox,
 ) -> Answer
     requires fits { GrownServerFits plan.now (option_copied next) server.old }
     ensures { GrownServerFits plan.now (option_copied next.entry) server.new }
 {
-    let before = outbox.messages().len();
-    match server.handle(plan, next, file, msg, outbox) {
-        Err(_) => {
-            assert_eq!(rt; outbox.messages().len(), before);
-            answer_of(server.handle(plan, next, file, msg, outbox))
-        }
-        answer => answer_of(answer),
+    let msg = message_of(row.1);
+    answer_of(server.handle(plan, next, row.0, &msg, outbox))
+}
+
+// A call that wants memory leaves the outbox, and is made again.
+fn comes_at_last(
+    rt: &impl Abort,
+    plan: &Plan,
+    next: Option<&Next>,
+    server: &mut GrownServer,
+    row: &Row,
+    outbox: &mut Outbox,
+) -> Answer
+    requires fits { GrownServerFits plan.now (option_copied next) server.old }
+    ensures { GrownServerFits plan.now (option_copied next.entry) server.new }
+{
+    let answer = comes(plan, next, server, row, outbox);
+    if answer != Answer::Failed {
+        return answer;
     }
+    assert!(rt; outbox.messages().is_empty());
+    comes(plan, next, server, row, outbox)
 }
 
 fn takes(
     rt: &impl Abort,
-    alloc: Global,
     plan: &Plan,
     next: Option<&Next>,
     server: &mut GrownServer,
     name: &str,
     row: &Row,
+    outbox: &mut Outbox,
 )
     requires fits { GrownServerFits plan.now (option_copied next) server.old }
     ensures { GrownServerFits plan.now (option_copied next.entry) server.new }
 {
-    let mut outbox = Outbox::new(alloc);
-    let msg = message_of(row.1);
-    assert_eq!(rt;
-        handles(rt, plan, next, server, row.0, &msg, &mut outbox),
-        row.2,
-        "{}",
-        name
-    );
-    assert!(rt;
-        outbox
-            .messages()
-            .iter()
-            .map(told_by)
-            .eq(row.3.iter().copied()),
-        "{}",
-        name
-    );
+    let answer = comes_at_last(rt, plan, next, server, row, outbox);
+    holds(rt, name, answer == row.2);
+    tells(rt, outbox, row.3, name);
 }
 
 fn serves(
@@ -193,36 +175,33 @@ fn serves(
     ensures { GrownServerFits plan.now (option_copied next.entry) server.new }
 {
     for row in case.rows {
-        takes(rt, alloc, plan, next, server, case.name, row);
+        takes(
+            rt,
+            plan,
+            next,
+            server,
+            case.name,
+            row,
+            &mut Outbox::new(alloc),
+        );
     }
-    assert_eq!(rt; server.switched(), case.switched, "{}", case.name);
+    holds(rt, case.name, server.switched() == case.switched);
 }
 
-fn serves_first(
-    rt: &impl Abort,
-    alloc: Global,
-    plan: &Plan,
-    next: &Next,
-    case: &Case,
-) -> Result<(), Fail> {
-    let mut server = GrownServer::new(alloc, plan, Shard(0))?;
-    serves(
-        rt,
-        alloc,
-        plan,
-        if case.has_next { Some(next) } else { None },
-        &mut server,
-        case,
-    );
-    Ok(())
+fn serves_first(rt: &impl Abort, alloc: Global, plan: &Plan, next: Option<&Next>, case: &Case) {
+    let mut server = GrownServer::new(alloc, plan, Shard(0)).expect(rt, "a server");
+    serves(rt, alloc, plan, next, &mut server, case);
+}
+
+fn goes_over(rt: &impl Abort, alloc: Global, plan: &Plan, next: &Next) {
+    serves_first(rt, alloc, plan, None, &ALONE);
+    serves_first(rt, alloc, plan, Some(next), &ONE_TOLD);
+    serves_first(rt, alloc, plan, Some(next), &BOTH_TOLD);
 }
 
 #[test]
-fn servers_answer_and_tell(rt: HostRuntime) -> Result<(), Fail> {
-    let plan = check(rt.alloc(), COUNTER)?;
-    let next = next_of(rt.alloc(), 2)?;
-    for case in &CASES {
-        serves_first(&rt, rt.alloc(), &plan, &next, case)?;
-    }
-    Ok(())
+fn servers_answer_and_tell(rt: HostRuntime) {
+    let plan = plan_of(&rt, rt.alloc(), COUNTER);
+    let next = next_of(&rt, rt.alloc(), 2);
+    goes_over(&rt, rt.alloc(), &plan, &next);
 }

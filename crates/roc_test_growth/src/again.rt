@@ -18,6 +18,11 @@ fn lengths(outbox: &Outbox) -> (usize, usize, usize) {
     )
 }
 
+// Fails where an outbox holds more or less of each.
+fn is_left(rt: &impl Abort, outbox: &Outbox, before: (usize, usize, usize)) {
+    assert!(rt; lengths(outbox) == before);
+}
+
 /// A call of a procedure is submitted.
 pub(crate) fn submit(
     rt: &impl Abort,
@@ -33,7 +38,7 @@ pub(crate) fn submit(
     let before = lengths(outbox);
     match coord.submit(plan, proc, args, outbox) {
         Err(SubmitFault::NoMemory) => {
-            assert_eq!(rt; lengths(outbox), before);
+            is_left(rt, outbox, before);
             coord.submit(plan, proc, args, outbox)
         }
         answer => answer,
@@ -75,12 +80,12 @@ pub(crate) fn serve(
     let before = lengths(outbox);
     if is_made_ahead(msg) {
         make_ahead(rt, plan, server, msg, outbox);
-        assert_eq!(rt; lengths(outbox), before);
+        is_left(rt, outbox, before);
         assert!(rt; server.handle(plan, msg, outbox).is_ok());
         return;
     }
     if server.handle(plan, msg, outbox).is_err() {
-        assert_eq!(rt; lengths(outbox), before);
+        is_left(rt, outbox, before);
         assert!(rt; server.handle(plan, msg, outbox).is_ok());
     }
 }
@@ -108,11 +113,9 @@ pub(crate) fn coordinate(
     if let Ok(handled) = coord.handle(plan, msg, outbox) {
         return reply_of(handled);
     }
-    assert_eq!(rt; lengths(outbox), before);
-    match coord.handle(plan, msg, outbox) {
-        Ok(handled) => reply_of(handled),
-        Err(_) => panic!(rt; "no memory for the call made again"),
-    }
+    is_left(rt, outbox, before);
+    let handled = coord.handle(plan, msg, outbox);
+    reply_of(handled.expect(rt, "memory for the call made again"))
 }
 
 /// Time has passed for a server.
@@ -122,7 +125,7 @@ pub(crate) fn tick_server(rt: &impl Abort, plan: &Plan, server: &mut Server, out
 {
     let before = lengths(outbox);
     if server.tick(outbox).is_err() {
-        assert_eq!(rt; lengths(outbox), before);
+        is_left(rt, outbox, before);
         assert!(rt; server.tick(outbox).is_ok());
     }
 }
@@ -134,7 +137,7 @@ pub(crate) fn tick_coord(rt: &impl Abort, plan: &Plan, coord: &mut Coord, outbox
 {
     let before = lengths(outbox);
     if coord.tick(plan, outbox).is_err() {
-        assert_eq!(rt; lengths(outbox), before);
+        is_left(rt, outbox, before);
         assert!(rt; coord.tick(plan, outbox).is_ok());
     }
 }

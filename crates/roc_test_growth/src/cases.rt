@@ -1,18 +1,20 @@
 //! Runs, with what comes of them where memory suffices.
+ghost use Rattle.std.specs.List.{AllByRecursion};
+ghost use Rattle.roc_coord.specs.Fits.{CoordFits};
+ghost use Rattle.roc_server.specs.Ahead.{ServingFits};
 
-use crate::first::{Run, first_run};
-use crate::plans::{Unmade, plan_of};
+use crate::first::{Run, first_run, plan_of};
+use crate::holds::holds;
 use crate::run::{Event, happen_all, post};
 use roc_base::{Node, Nums, Shard, TxnId};
+use roc_plan::Plan;
 use std::alloc::Global;
 use std::process::Abort;
-use std::test::Fail;
 
 // A reply, with the transaction that it is of.
 type Reply = (TxnId, &'static [i64]);
 
 // A workload, its events, and what is to come of them: the replies, how many messages are sent, and the serial order.
-#[derive(Clone, Copy)]
 struct Case {
     workload: &'static [u8],
     coords: u16,
@@ -23,36 +25,42 @@ struct Case {
 }
 
 fn are_replies(rt: &impl Abort, found: &[(TxnId, Nums)], wanted: &[Reply]) {
-    assert_eq!(rt; found.len(), wanted.len());
+    holds(rt, "how many replies", found.len() == wanted.len());
     for ((id, reply), (wanted_id, numbers)) in found.iter().zip(wanted) {
-        assert_eq!(rt; *id, *wanted_id);
-        assert_eq!(rt; reply.as_slice(), *numbers);
+        holds(rt, "whom a reply is to", *id == *wanted_id);
+        holds(rt, "a reply", reply.as_slice() == *numbers);
     }
 }
 
 fn is_outcome(rt: &impl Abort, run: &Run, case: &Case) {
     are_replies(rt, &run.replies, case.replies);
-    assert_eq!(rt; run.sent.len(), case.messages);
-    assert_eq!(rt; run.order.as_slice(), case.order);
+    holds(rt, "how many messages", run.sent.len() == case.messages);
+    holds(rt, "the order", run.order.as_slice() == case.order);
 }
 
-fn check(rt: &impl Abort, alloc: Global, case: &Case) -> Result<(), Unmade> {
-    let plan = plan_of(alloc, case.workload)?;
-    let mut run = first_run(alloc, &plan, case.coords)?;
-    happen_all(rt, &plan, &mut run, case.events);
-    post(rt, &mut run);
-    is_outcome(rt, &run, case);
-    Ok(())
+fn runs(rt: &impl Abort, plan: &Plan, run: &mut Run, case: &Case)
+    requires servers { AllByRecursion (ServingFits plan.now) run.old.servers.items }
+    requires coords { AllByRecursion (CoordFits plan.now) run.old.coords.items }
+{
+    happen_all(rt, plan, run, case.events);
+    post(rt, run);
+    is_outcome(rt, run, case);
+}
+
+fn starts(rt: &impl Abort, alloc: Global, plan: &Plan, case: &Case) {
+    if let Ok(mut run) = first_run(alloc, plan, case.coords) {
+        runs(rt, plan, &mut run, case);
+    }
 }
 
 // A test whose own memory is wanting has shown nothing, and passes: a call of a node stops it where it is not as it must be.
 fn passes(rt: &impl Abort, alloc: Global, case: &Case) {
-    if let Err(unmade) = check(rt, alloc, case) {
-        assert!(rt; unmade == Unmade::NoMemory);
+    if let Some(plan) = plan_of(rt, alloc, case.workload) {
+        starts(rt, alloc, &plan, case);
     }
 }
 
-const CROSSING: Case = Case {
+static CROSSING: Case = Case {
     workload: b"shards 2;
 table acct { bal }
 init acct[0,0].bal = 100;
@@ -94,7 +102,7 @@ fn crossing_transfers(rt: HostRuntime) {
 }
 
 // Each shard lacks the list of the transaction that comes before its own, and asks for it; one asks again at a tick.
-const RING: Case = Case {
+static RING: Case = Case {
     workload: b"shards 3;
 table acct { bal }
 init acct[0,0].bal = 100;
@@ -136,7 +144,7 @@ fn a_ring_of_transfers(rt: HostRuntime) {
 const ADDITION: Event = Event::Submit(0, &[1]);
 
 // Sixteen unanswered are the most: the seventeenth is refused until one of them has its reply. Then time passes.
-const BUSY: Case = Case {
+static BUSY: Case = Case {
     workload: b"shards 1;
 table t { x }
 proc add(n) { later a at 0 { get v = t[0].x; set t[0].x = v + n; out v; } }
@@ -179,7 +187,7 @@ const LATER: TxnId = TxnId { coord: 0, seq: 1 };
 
 // The shards forget what is ended, one behind the other. A list that comes late teaches the first a transaction again, so that it asks for what
 // comes before that one, of which the other answers that it is settled. A start of what is gone is the last message.
-const FORGOTTEN: Case = Case {
+static FORGOTTEN: Case = Case {
     workload: b"shards 2;
 table acct { bal }
 init acct[0,0].bal = 100;
@@ -237,7 +245,7 @@ fn transactions_that_are_forgotten(rt: HostRuntime) {
 }
 
 // Two views look while an addition is undecided, one of them again at a tick; what both read in their first round is answered behind the commit.
-const LOOKED_AT: Case = Case {
+static LOOKED_AT: Case = Case {
     workload: b"shards 1;
 table t { x }
 proc add(n) { later a at 0 { get v = t[0].x; set t[0].x = v + n; out v; } }

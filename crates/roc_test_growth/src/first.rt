@@ -5,11 +5,13 @@ ghost use Rattle.roc_coord.specs.Fits.{CoordFits};
 ghost use Rattle.roc_server.specs.Ahead.{ServingFits};
 
 use roc_base::{NoMemory, Nums, Shard, TxnId};
+use roc_check::{CheckFault, check};
 use roc_coord::Coord;
 use roc_msg::{Outbox, Outgoing};
 use roc_plan::Plan;
 use roc_server::Server;
 use std::alloc::{AllocError, Global};
+use std::process::Abort;
 
 // How many messages a run has room for.
 const MESSAGES: usize = 128;
@@ -55,13 +57,27 @@ pub(crate) fn first_run(alloc: Global, plan: &Plan, coords: u16) -> Result<Run, 
     ensures servers { IfOk result (λ run. AllByRecursion (ServingFits plan.now) run.servers.items) }
     ensures coords { IfOk result (λ run. AllByRecursion (CoordFits plan.now) run.coords.items) }
 {
+    let sent = Vec::with_capacity(alloc, MESSAGES)?;
+    let order = Vec::with_capacity(alloc, TRANSACTIONS)?;
+    let replies = Vec::with_capacity(alloc, TRANSACTIONS)?;
+    let coords = first_coords(alloc, plan, coords)?;
+    let servers = first_servers(alloc, plan)?;
     Ok(Run {
         alloc,
-        servers: first_servers(alloc, plan)?,
-        coords: first_coords(alloc, plan, coords)?,
+        servers,
+        coords,
         outbox: Outbox::new(alloc),
-        sent: Vec::with_capacity(alloc, MESSAGES)?,
-        order: Vec::with_capacity(alloc, TRANSACTIONS)?,
-        replies: Vec::with_capacity(alloc, TRANSACTIONS)?,
+        sent,
+        order,
+        replies,
     })
+}
+
+/// The plan of a text, unless memory is wanting.
+pub(crate) fn plan_of(rt: &impl Abort, alloc: Global, text: &[u8]) -> Option<Plan> {
+    match check(alloc, text) {
+        Ok(plan) => Some(plan),
+        Err(CheckFault::NoMemory) => None,
+        Err(_) => panic!(rt; "the text has no plan"),
+    }
 }

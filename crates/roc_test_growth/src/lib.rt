@@ -9,6 +9,6 @@ mod cases;
 #[cfg(test)]
 mod first;
 #[cfg(test)]
-mod plans;
+mod holds;
 #[cfg(test)]
 mod run;

@@ -58,6 +58,7 @@ fn coordinate_at(
     coordinate(rt, plan, &mut coords[at], msg, outbox)
 }
 
+// Submits a call, which is accepted, or refused where too many are unanswered.
 fn submit_at(
     rt: &impl Abort,
     plan: &Plan,
@@ -65,13 +66,17 @@ fn submit_at(
     at: usize,
     proc: u16,
     args: &[i64],
+    busy: bool,
     outbox: &mut Outbox,
-) -> Result<TxnId, SubmitFault>
+)
     requires fits { AllByRecursion (CoordFits plan.now) coords.old.items }
     ensures { AllByRecursion (CoordFits plan.now) coords.new.items }
 {
     assert!(rt; at < coords.len());
-    submit(rt, plan, &mut coords[at], proc, args, outbox)
+    match submit(rt, plan, &mut coords[at], proc, args, outbox) {
+        Ok(_) => assert!(rt; !busy),
+        Err(fault) => assert!(rt; busy && fault == SubmitFault::Busy),
+    }
 }
 
 fn tick_server_at(
@@ -106,7 +111,7 @@ fn tick_coord_at(
 fn note_decided(rt: &impl Abort, order: &mut Vec<TxnId>, decided: &[TxnId]) {
     for id in decided {
         if !order.contains(id) {
-            assert!(rt; order.push(*id).is_ok());
+            order.push(*id).expect(rt, "room");
         }
     }
 }
@@ -118,13 +123,13 @@ pub(crate) fn post(rt: &impl Abort, run: &mut Run)
 {
     let outbox = mem::replace(&mut run.outbox, Outbox::new(run.alloc));
     let (mut messages, decided) = outbox.into_parts();
-    assert!(rt; run.sent.append(&mut messages).is_ok());
+    run.sent.append(&mut messages).expect(rt, "room");
     note_decided(rt, &mut run.order, &decided);
 }
 
 fn note_reply(rt: &impl Abort, replies: &mut Vec<(TxnId, Nums)>, reply: Option<(TxnId, Nums)>) {
     if let Some(reply) = reply {
-        assert!(rt; replies.push(reply).is_ok());
+        replies.push(reply).expect(rt, "room");
     }
 }
 
@@ -196,16 +201,15 @@ fn happen(rt: &impl Abort, plan: &Plan, run: &mut Run, event: Event)
     match event {
         Event::Submit(coord, args) => {
             let (coords, outbox) = (&mut run.coords, &mut run.outbox);
-            assert!(rt; submit_at(rt, plan, coords, usize::from(coord), 0, args, outbox).is_ok());
+            submit_at(rt, plan, coords, usize::from(coord), 0, args, false, outbox);
         }
         Event::Look(coord) => {
             let (coords, outbox) = (&mut run.coords, &mut run.outbox);
-            assert!(rt; submit_at(rt, plan, coords, usize::from(coord), 1, &[], outbox).is_ok());
+            submit_at(rt, plan, coords, usize::from(coord), 1, &[], false, outbox);
         }
         Event::Busy(coord, args) => {
             let (coords, outbox) = (&mut run.coords, &mut run.outbox);
-            let answer = submit_at(rt, plan, coords, usize::from(coord), 0, args, outbox);
-            assert_eq!(rt; answer, Err(SubmitFault::Busy));
+            submit_at(rt, plan, coords, usize::from(coord), 0, args, true, outbox);
         }
         Event::Deliver(first, last) => deliver_all(rt, plan, run, first, last),
         Event::Tick(node) => tick(rt, plan, run, node),

@@ -1,8 +1,9 @@
 //! Datagrams, written out byte by byte.
 //!
 //! The bytes are those of docs/FORMATS.md: magic, version, kind, tag, the role and the number of the sender, and the body of the kind.
+use crate::same::{same, same_items};
 use roc_io::{Addr, Datagram};
-use std::alloc::{AllocError, Global};
+use std::alloc::Global;
 use std::process::Abort;
 
 /// The tag of the nodes.
@@ -89,19 +90,20 @@ pub(crate) const HUNDRED_AND_ONE: &[u8] =
     b"RCO1\x02\x04tagoften\0\0\0\0\x01\0\0\0\0\0\0\x01\0\0\0\0\0\0\0e";
 
 /// The arrivals of a link.
-pub(crate) fn arrivals_of(alloc: Global, packets: &[Packet]) -> Result<Vec<Datagram>, AllocError> {
+pub(crate) fn arrivals_of(rt: &impl Abort, alloc: Global, packets: &[Packet]) -> Vec<Datagram> {
     let mut arrivals = Vec::new(alloc);
     for (from, bytes) in packets {
-        arrivals.push(Datagram::copied(alloc, *from, bytes)?)?;
+        let datagram = Datagram::copied(alloc, *from, bytes).expect(rt, "memory");
+        arrivals.push(datagram).expect(rt, "memory");
     }
-    Ok(arrivals)
+    arrivals
 }
 
 /// Asserts that exactly these datagrams were sent, in order.
 pub(crate) fn are_sent(rt: &impl Abort, name: &str, found: &[Datagram], wanted: &[Packet]) {
-    assert_eq!(rt; found.len(), wanted.len(), "{name}");
+    same(rt, name, &found.len(), &wanted.len());
     for (datagram, (to, bytes)) in found.iter().zip(wanted) {
-        assert_eq!(rt; datagram.address(), *to, "{name}");
-        assert_eq!(rt; datagram.bytes(), *bytes, "{name}");
+        same(rt, name, &datagram.address(), to);
+        same_items(rt, name, datagram.bytes(), bytes);
     }
 }

@@ -2,6 +2,8 @@
 #![tactic(auto)]
 
 #[cfg(test)]
+mod coordinators;
+#[cfg(test)]
 mod datagrams;
 #[cfg(test)]
 mod families;
@@ -13,6 +15,10 @@ mod local;
 mod logging;
 #[cfg(test)]
 mod outside;
+#[cfg(test)]
+mod same;
+#[cfg(test)]
+mod servers;
 #[cfg(test)]
 mod serving;
 #[cfg(test)]

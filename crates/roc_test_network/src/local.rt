@@ -1,11 +1,10 @@
 //! Runs with servers as children: how each ends, whom it starts, stops and awaits.
 use crate::datagrams::{COMMIT, COMMITOK, Packet, START, STARTOK, STOP};
-use crate::families::{Case, Children, Family, Words, check};
-use crate::outside::{Failing, Seen};
+use crate::families::{Case, Children, Family, Words, runs};
+use crate::outside::{Failing, NOTHING, Seen};
 use crate::workloads::{ANY, BANK, COUNTER, FIRST_SHARD, SECOND_SHARD};
 use roc_base::Shard;
 use roc_node_local::LocalEnd;
-use std::test::Fail;
 
 const SERVE_FIRST: Words = ["serve", "w.rcw", "c.toml", "--shard", "0", "--turns", "3"];
 
@@ -28,11 +27,13 @@ const BOTH_STOPPED: [Packet; 6] = [
 
 const NOTHING_ASKED: &[u8] = b"end 0 answered 0 unanswered 0 unsubmitted\n";
 
-const ENDS: [Case; 4] = [
+static CASES: [Case; 13] = [
+    // A run ends as its child does.
     Case {
+        texts: &COUNTER,
         requests: b"",
         arrivals: &[],
-        failing: Failing::Nothing,
+        failing: NOTHING,
         children: Children {
             statuses: &[Some(0)],
             failing: None,
@@ -50,9 +51,10 @@ const ENDS: [Case; 4] = [
         },
     },
     Case {
+        texts: &COUNTER,
         requests: b"",
         arrivals: &[],
-        failing: Failing::Nothing,
+        failing: NOTHING,
         children: Children {
             statuses: &[Some(4)],
             failing: None,
@@ -73,9 +75,10 @@ const ENDS: [Case; 4] = [
         },
     },
     Case {
+        texts: &COUNTER,
         requests: b"",
         arrivals: &[],
-        failing: Failing::Nothing,
+        failing: NOTHING,
         children: Children {
             statuses: &[Some(0)],
             failing: Some(2),
@@ -96,9 +99,10 @@ const ENDS: [Case; 4] = [
         },
     },
     Case {
+        texts: &COUNTER,
         requests: b"add 5\n",
         arrivals: &[(FIRST_SHARD, STARTOK), (FIRST_SHARD, COMMITOK)],
-        failing: Failing::Nothing,
+        failing: NOTHING,
         children: Children {
             statuses: &[Some(0)],
             failing: None,
@@ -124,19 +128,12 @@ end 1 answered 0 unanswered 0 unsubmitted
 ",
         },
     },
-];
-
-#[test]
-fn a_run_ends_as_its_child_does(rt: HostRuntime) -> Result<(), Fail> {
-    check(&rt, rt.alloc(), COUNTER, &ENDS)
-}
-
-// Each of these children ends with another status than 0 behind the first fault.
-const FAULTS: [Case; 4] = [
+    // The first fault stays: each of these children ends with another status than 0 behind it.
     Case {
+        texts: &COUNTER,
         requests: b"",
         arrivals: &[],
-        failing: Failing::Call(1),
+        failing: Failing { call: 1, ..NOTHING },
         children: Children {
             statuses: &[Some(4)],
             failing: None,
@@ -154,9 +151,10 @@ const FAULTS: [Case; 4] = [
         },
     },
     Case {
+        texts: &COUNTER,
         requests: b"add 5\n",
         arrivals: &[],
-        failing: Failing::Call(2),
+        failing: Failing { call: 2, ..NOTHING },
         children: Children {
             statuses: &[Some(4)],
             failing: None,
@@ -179,9 +177,13 @@ const FAULTS: [Case; 4] = [
         },
     },
     Case {
+        texts: &COUNTER,
         requests: b"",
         arrivals: &[],
-        failing: Failing::Write(1),
+        failing: Failing {
+            write: 1,
+            ..NOTHING
+        },
         children: Children {
             statuses: &[Some(4)],
             failing: None,
@@ -199,9 +201,10 @@ const FAULTS: [Case; 4] = [
         },
     },
     Case {
+        texts: &COUNTER,
         requests: b"add 5\n",
         arrivals: &[],
-        failing: Failing::Nothing,
+        failing: NOTHING,
         children: Children {
             statuses: &[Some(4)],
             failing: None,
@@ -229,18 +232,12 @@ end 0 answered 1 unanswered 0 unsubmitted
 ",
         },
     },
-];
-
-#[test]
-fn the_first_fault_stays(rt: HostRuntime) -> Result<(), Fail> {
-    check(&rt, rt.alloc(), COUNTER, &FAULTS)
-}
-
-const PAIRS: [Case; 5] = [
+    // Both servers are stopped and awaited.
     Case {
+        texts: &BANK,
         requests: b"",
         arrivals: &[],
-        failing: Failing::Nothing,
+        failing: NOTHING,
         children: Children {
             statuses: &[Some(0), Some(0)],
             failing: None,
@@ -258,9 +255,10 @@ const PAIRS: [Case; 5] = [
         },
     },
     Case {
+        texts: &BANK,
         requests: b"",
         arrivals: &[],
-        failing: Failing::Nothing,
+        failing: NOTHING,
         children: Children {
             statuses: &[Some(4), Some(5)],
             failing: None,
@@ -281,9 +279,10 @@ const PAIRS: [Case; 5] = [
         },
     },
     Case {
+        texts: &BANK,
         requests: b"",
         arrivals: &[],
-        failing: Failing::Nothing,
+        failing: NOTHING,
         children: Children {
             statuses: &[Some(0), Some(5)],
             failing: None,
@@ -304,9 +303,10 @@ const PAIRS: [Case; 5] = [
         },
     },
     Case {
+        texts: &BANK,
         requests: b"",
         arrivals: &[],
-        failing: Failing::Nothing,
+        failing: NOTHING,
         children: Children {
             statuses: &[Some(0)],
             failing: Some(2),
@@ -328,9 +328,10 @@ const PAIRS: [Case; 5] = [
     },
     // No server runs that could be stopped.
     Case {
+        texts: &BANK,
         requests: b"",
         arrivals: &[],
-        failing: Failing::Nothing,
+        failing: NOTHING,
         children: Children {
             statuses: &[Some(0)],
             failing: Some(1),
@@ -353,6 +354,8 @@ const PAIRS: [Case; 5] = [
 ];
 
 #[test]
-fn both_servers_are_stopped_and_awaited(rt: HostRuntime) -> Result<(), Fail> {
-    check(&rt, rt.alloc(), BANK, &PAIRS)
+fn runs_with_children_end_as_told(rt: HostRuntime) {
+    for case in &CASES {
+        runs(&rt, rt.alloc(), case);
+    }
 }

@@ -1,33 +1,19 @@
 //! Nodes that keep a log, of which any call may fail: each event is in it before anything is sent or written for it.
-use crate::datagrams::{COMMIT, COMMITOK, Packet, START, STARTOK, STOP, STRANGE_START};
-use crate::outside::{Failing, Outside, Seen, disk_of, have_seen, outside_of};
-use crate::serving::{Keeping, serve_first};
-use crate::submitting::submit;
+use crate::coordinators::ANSWERS;
+use crate::datagrams::{COMMIT, Packet, START, STARTOK, STOP, STRANGE_START};
+use crate::outside::{Failing, NOTHING, Seen};
+use crate::servers::{CALLER, Setting};
 use crate::workloads::{ANY, COUNTER, FIRST_SHARD};
-use roc_io::Addr;
+use crate::{coordinators, servers};
 use roc_node_serve::ServeEnd;
 use roc_node_submit::SubmitEnd;
-use std::alloc::Global;
-use std::process::Abort;
-use std::test::Fail;
 
-const CALLER: Addr = Addr {
-    host: [10, 0, 0, 8],
-    port: 9000,
-};
-
-const LOG: Keeping = Keeping {
+const LOGGING: Setting = Setting {
+    texts: &COUNTER,
+    counts: false,
     journal: None,
     log: Some("log"),
 };
-
-// Which call fails, and what is to come of it, with what the log holds then. A write that fails takes half of its piece.
-struct Case<End> {
-    failing: Failing,
-    end: End,
-    seen: Seen,
-    log: &'static [u8],
-}
 
 // A start twice, the same under another tag, and a stop.
 const ROUND: [Packet; 4] = [
@@ -37,9 +23,13 @@ const ROUND: [Packet; 4] = [
     (CALLER, STOP),
 ];
 
-const SERVED: [Case<ServeEnd>; 5] = [
-    Case {
-        failing: Failing::Nothing,
+/// Servers that keep a log.
+pub(crate) static SERVED: [servers::Case; 5] = [
+    servers::Case {
+        setting: &LOGGING,
+        arrivals: &ROUND,
+        failing: NOTHING,
+        turns: 9,
         end: ServeEnd::Done,
         seen: Seen {
             name: "served to the end",
@@ -55,8 +45,11 @@ out 52434f3102027461676f6674656e0000000000000000000000000000000000000000
 in 52434f3102077461676f6674656e010000
 ",
     },
-    Case {
-        failing: Failing::Log(1),
+    servers::Case {
+        setting: &LOGGING,
+        arrivals: &ROUND,
+        failing: Failing { log: 1, ..NOTHING },
+        turns: 9,
         end: ServeEnd::BookFault,
         seen: Seen {
             name: "the open fails",
@@ -66,8 +59,11 @@ in 52434f3102077461676f6674656e010000
         },
         log: b"",
     },
-    Case {
-        failing: Failing::Log(2),
+    servers::Case {
+        setting: &LOGGING,
+        arrivals: &ROUND,
+        failing: Failing { log: 2, ..NOTHING },
+        turns: 9,
         end: ServeEnd::BookFault,
         seen: Seen {
             name: "the first line fails",
@@ -77,8 +73,11 @@ in 52434f3102077461676f6674656e010000
         },
         log: b"node",
     },
-    Case {
-        failing: Failing::Log(3),
+    servers::Case {
+        setting: &LOGGING,
+        arrivals: &ROUND,
+        failing: Failing { log: 3, ..NOTHING },
+        turns: 9,
         end: ServeEnd::BookFault,
         seen: Seen {
             name: "the first event fails",
@@ -89,8 +88,11 @@ in 52434f3102077461676f6674656e010000
         log: b"node s0
 in 52434f3102017461676f6674656e0100000000000000000000000000010000000000000005",
     },
-    Case {
-        failing: Failing::Log(4),
+    servers::Case {
+        setting: &LOGGING,
+        arrivals: &ROUND,
+        failing: Failing { log: 4, ..NOTHING },
+        turns: 9,
         end: ServeEnd::BookFault,
         seen: Seen {
             name: "the second event fails",
@@ -105,37 +107,14 @@ in 52434f3102017461676f6674656e0100000000000000000000000000010000000000000005",
     },
 ];
 
-fn serves(
-    rt: &impl Abort,
-    alloc: Global,
-    case: &Case<ServeEnd>,
-    outside: &mut Outside,
-) -> Result<(), Fail> {
-    let mut disk = disk_of(alloc, &[])?;
-    let end = serve_first(rt, alloc, COUNTER, false, outside, 9, LOG, &mut disk)?;
-    assert_eq!(rt; end, case.end, "{}", case.seen.name);
-    have_seen(rt, outside, case.seen, case.log)
-}
-
-#[test]
-fn servers_log_before_they_send(rt: HostRuntime) -> Result<(), Fail> {
-    for case in &SERVED {
-        let mut outside = outside_of(rt.alloc(), &ROUND, case.failing)?;
-        serves(&rt, rt.alloc(), case, &mut outside)?;
-    }
-    Ok(())
-}
-
-// What comes to a coordinator for one addition.
-const ANSWERS: [Packet; 3] = [
-    (FIRST_SHARD, STRANGE_START),
-    (FIRST_SHARD, STARTOK),
-    (FIRST_SHARD, COMMITOK),
-];
-
-const SUBMITTED: [Case<SubmitEnd>; 5] = [
-    Case {
-        failing: Failing::Nothing,
+/// Coordinators that keep a log.
+pub(crate) static SUBMITTED: [coordinators::Case; 5] = [
+    coordinators::Case {
+        requests: b"add 5\n",
+        arrivals: &ANSWERS,
+        failing: NOTHING,
+        name: Some("log"),
+        turns: 9,
         end: SubmitEnd::Done,
         seen: Seen {
             name: "submitted to the end",
@@ -152,8 +131,12 @@ in 52434f3102047461676f6674656e0000000000000000000000010000000000000000
 answer 0.0 0
 ",
     },
-    Case {
-        failing: Failing::Log(1),
+    coordinators::Case {
+        requests: b"add 5\n",
+        arrivals: &ANSWERS,
+        failing: Failing { log: 1, ..NOTHING },
+        name: Some("log"),
+        turns: 9,
         end: SubmitEnd::BookFault,
         seen: Seen {
             name: "the open fails",
@@ -163,8 +146,12 @@ answer 0.0 0
         },
         log: b"",
     },
-    Case {
-        failing: Failing::Log(3),
+    coordinators::Case {
+        requests: b"add 5\n",
+        arrivals: &ANSWERS,
+        failing: Failing { log: 3, ..NOTHING },
+        name: Some("log"),
+        turns: 9,
         end: SubmitEnd::BookFault,
         seen: Seen {
             name: "the submission fails",
@@ -176,8 +163,12 @@ answer 0.0 0
 submit add 5
 out 52434f3102017461676f6674656e010",
     },
-    Case {
-        failing: Failing::Log(4),
+    coordinators::Case {
+        requests: b"add 5\n",
+        arrivals: &ANSWERS,
+        failing: Failing { log: 4, ..NOTHING },
+        name: Some("log"),
+        turns: 9,
         end: SubmitEnd::BookFault,
         seen: Seen {
             name: "the first answer fails",
@@ -190,8 +181,12 @@ submit add 5
 out 52434f3102017461676f6674656e01000000000000000000000000000100000000000000050000
 in 52434f3102027461676f6674656e0000000000000000000000000000000000",
     },
-    Case {
-        failing: Failing::Log(5),
+    coordinators::Case {
+        requests: b"add 5\n",
+        arrivals: &ANSWERS,
+        failing: Failing { log: 5, ..NOTHING },
+        name: Some("log"),
+        turns: 9,
         end: SubmitEnd::BookFault,
         seen: Seen {
             name: "the last answer fails",
@@ -207,23 +202,3 @@ out 52434f3102037461676f6674656e01000000000000000000000000
 in 52434f3102047461676f6674656e00000000000",
     },
 ];
-
-fn submits(
-    rt: &impl Abort,
-    alloc: Global,
-    case: &Case<SubmitEnd>,
-    outside: &mut Outside,
-) -> Result<(), Fail> {
-    let end = submit(rt, alloc, b"add 5\n", outside, 9, Some("log"))?;
-    assert_eq!(rt; end, case.end, "{}", case.seen.name);
-    have_seen(rt, outside, case.seen, case.log)
-}
-
-#[test]
-fn coordinators_log_before_they_send(rt: HostRuntime) -> Result<(), Fail> {
-    for case in &SUBMITTED {
-        let mut outside = outside_of(rt.alloc(), &ANSWERS, case.failing)?;
-        submits(&rt, rt.alloc(), case, &mut outside)?;
-    }
-    Ok(())
-}

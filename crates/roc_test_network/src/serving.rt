@@ -3,122 +3,37 @@ use crate::datagrams::{
     ADD_OF_FIRST, ADD_OF_SECOND, COMMIT_BEHIND_FIRST, COMMIT_BEHIND_SECOND, FETCH_OF_FIRST,
     FETCH_OF_NOTHING, HUNDRED, HUNDRED_AND_ONE, KNOWN_TWICE, Packet, START, START_OF_GROUP_1,
     START_OF_PROCEDURE_1, START_WITHOUT_ARGUMENTS, STARTOK, STARTOK_BEHIND_FIRST, STOP,
-    STRANGE_START, TAG,
+    STRANGE_START,
 };
-use crate::outside::{Failing, Outside, Seen, disk_of, have_seen, outside_of};
-use crate::workloads::{BANK, COUNTER, FIRST_SHARD, Texts};
-use roc_base::Shard;
+use crate::logging::SERVED;
+use crate::outside::{Failing, NOTHING, Seen, disk_of};
+use crate::servers::{CALLER, Case, OTHER_CALLER, Setting, serves};
+use crate::workloads::{BANK, COUNTER, FIRST_SHARD};
 use roc_disk_memory::MemDisk;
-use roc_io::Addr;
-use roc_node_serve::{ServeEnd, serve};
+use roc_node_serve::ServeEnd;
 use std::alloc::Global;
 use std::process::Abort;
-use std::test::Fail;
 
-// What comes to shard 0 and which call fails, and what is to come of it.
-#[derive(Clone, Copy)]
-struct Case {
-    arrivals: &'static [Packet],
-    failing: Failing,
-    turns: u32,
-    end: ServeEnd,
-    seen: Seen,
-}
-
-const CALLER: Addr = Addr {
-    host: [10, 0, 0, 8],
-    port: 9000,
-};
-
-const OTHER_CALLER: Addr = Addr {
-    host: [10, 0, 0, 9],
-    port: 9001,
-};
-
-/// What a server keeps besides: a journal or a log, of these names.
-#[derive(Clone, Copy)]
-pub(crate) struct Keeping {
-    pub journal: Option<&'static str>,
-    pub log: Option<&'static str>,
-}
-
-/// Serves shard 0.
-pub(crate) fn serve_first(
-    rt: &impl Abort,
-    alloc: Global,
-    texts: Texts,
-    counts: bool,
-    outside: &mut Outside,
-    turns: u32,
-    keeping: Keeping,
-    disk: &mut MemDisk,
-) -> Result<ServeEnd, Fail> {
-    let plan = texts.plan(alloc)?;
-    let cluster = texts.cluster_of(alloc, &plan)?;
-    let shards = usize::from(plan.workload().shards());
-    assert_eq!(rt; cluster.addrs().len(), shards);
-    assert!(rt; shards > 0);
-    Ok(serve(
-        alloc,
-        &plan,
-        TAG,
-        Shard(0),
-        &cluster,
-        counts,
-        &mut outside.link,
-        turns,
-        &mut outside.out,
-        keeping.journal,
-        disk,
-        keeping.log,
-        &mut outside.book,
-    ))
-}
-
-const NOTHING_KEPT: Keeping = Keeping {
+const PLAIN: Setting = Setting {
+    texts: &COUNTER,
+    counts: false,
     journal: None,
     log: None,
 };
 
-fn check_run(
-    rt: &impl Abort,
-    alloc: Global,
-    texts: Texts,
-    counts: bool,
-    case: &Case,
-    outside: &mut Outside,
-) -> Result<(), Fail> {
-    let mut disk = disk_of(alloc, &[])?;
-    let turns = case.turns;
-    let end = serve_first(
-        rt,
-        alloc,
-        texts,
-        counts,
-        outside,
-        turns,
-        NOTHING_KEPT,
-        &mut disk,
-    )?;
-    assert!(rt; disk.seen().is_empty());
-    let name = case.seen.name;
-    assert_eq!(rt; end, case.end, "{name}");
-    have_seen(rt, outside, case.seen, b"")
-}
+const COUNTING: Setting = Setting {
+    texts: &COUNTER,
+    counts: true,
+    journal: None,
+    log: None,
+};
 
-fn check(
-    rt: &impl Abort,
-    alloc: Global,
-    texts: Texts,
-    counts: bool,
-    cases: &[Case],
-) -> Result<(), Fail> {
-    for case in cases {
-        let mut outside = outside_of(alloc, case.arrivals, case.failing)?;
-        check_run(rt, alloc, texts, counts, case, &mut outside)?;
-    }
-    Ok(())
-}
+const COUNTING_BANK: Setting = Setting {
+    texts: &BANK,
+    counts: true,
+    journal: None,
+    log: None,
+};
 
 // A start twice, the same under another tag, and a stop.
 const ROUND: [Packet; 4] = [
@@ -128,10 +43,11 @@ const ROUND: [Packet; 4] = [
     (CALLER, STOP),
 ];
 
-const ROUNDS: [Case; 4] = [
+static ROUNDS: [Case; 4] = [
     Case {
+        setting: &PLAIN,
         arrivals: &ROUND,
-        failing: Failing::Nothing,
+        failing: NOTHING,
         turns: 9,
         end: ServeEnd::Done,
         seen: Seen {
@@ -140,10 +56,12 @@ const ROUNDS: [Case; 4] = [
             sent: &[(CALLER, STARTOK), (CALLER, STARTOK)],
             lines: b"serving 0\nend 0 stop taken 3 skipped 1\n",
         },
+        log: b"",
     },
     Case {
+        setting: &PLAIN,
         arrivals: &ROUND,
-        failing: Failing::Nothing,
+        failing: NOTHING,
         turns: 2,
         end: ServeEnd::Done,
         seen: Seen {
@@ -152,10 +70,12 @@ const ROUNDS: [Case; 4] = [
             sent: &[(CALLER, STARTOK), (CALLER, STARTOK)],
             lines: b"serving 0\nend 0 turns taken 2 skipped 0\n",
         },
+        log: b"",
     },
     Case {
+        setting: &PLAIN,
         arrivals: &[],
-        failing: Failing::Nothing,
+        failing: NOTHING,
         turns: 2,
         end: ServeEnd::Done,
         seen: Seen {
@@ -164,16 +84,18 @@ const ROUNDS: [Case; 4] = [
             sent: &[],
             lines: b"serving 0\nend 0 turns taken 0 skipped 0\n",
         },
+        log: b"",
     },
     // The coordinator is answered where it was heard last.
     Case {
+        setting: &PLAIN,
         arrivals: &[
             (CALLER, START),
             (OTHER_CALLER, START),
             (CALLER, STRANGE_START),
             (CALLER, STOP),
         ],
-        failing: Failing::Nothing,
+        failing: NOTHING,
         turns: 9,
         end: ServeEnd::Done,
         seen: Seen {
@@ -182,18 +104,15 @@ const ROUNDS: [Case; 4] = [
             sent: &[(CALLER, STARTOK), (OTHER_CALLER, STARTOK)],
             lines: b"serving 0\nend 0 stop taken 3 skipped 1\n",
         },
+        log: b"",
     },
 ];
 
-#[test]
-fn rounds_are_served(rt: HostRuntime) -> Result<(), Fail> {
-    check(&rt, rt.alloc(), COUNTER, false, &ROUNDS)
-}
-
-const FAULTS: [Case; 5] = [
+static FAULTS: [Case; 5] = [
     Case {
+        setting: &PLAIN,
         arrivals: &ROUND,
-        failing: Failing::Call(1),
+        failing: Failing { call: 1, ..NOTHING },
         turns: 9,
         end: ServeEnd::LinkFault,
         seen: Seen {
@@ -202,10 +121,12 @@ const FAULTS: [Case; 5] = [
             sent: &[],
             lines: b"",
         },
+        log: b"",
     },
     Case {
+        setting: &PLAIN,
         arrivals: &ROUND,
-        failing: Failing::Call(3),
+        failing: Failing { call: 3, ..NOTHING },
         turns: 9,
         end: ServeEnd::LinkFault,
         seen: Seen {
@@ -214,10 +135,12 @@ const FAULTS: [Case; 5] = [
             sent: &[(CALLER, STARTOK)],
             lines: b"serving 0\n",
         },
+        log: b"",
     },
     Case {
+        setting: &PLAIN,
         arrivals: &ROUND,
-        failing: Failing::Send(1),
+        failing: Failing { send: 1, ..NOTHING },
         turns: 9,
         end: ServeEnd::Done,
         seen: Seen {
@@ -226,11 +149,16 @@ const FAULTS: [Case; 5] = [
             sent: &[(CALLER, STARTOK)],
             lines: b"serving 0\nend 0 stop taken 3 skipped 1\n",
         },
+        log: b"",
     },
     // A write that fails takes half of its text.
     Case {
+        setting: &PLAIN,
         arrivals: &ROUND,
-        failing: Failing::Write(1),
+        failing: Failing {
+            write: 1,
+            ..NOTHING
+        },
         turns: 9,
         end: ServeEnd::SinkFault,
         seen: Seen {
@@ -239,10 +167,15 @@ const FAULTS: [Case; 5] = [
             sent: &[],
             lines: b"servi",
         },
+        log: b"",
     },
     Case {
+        setting: &PLAIN,
         arrivals: &ROUND,
-        failing: Failing::Write(2),
+        failing: Failing {
+            write: 2,
+            ..NOTHING
+        },
         turns: 9,
         end: ServeEnd::SinkFault,
         seen: Seen {
@@ -251,15 +184,12 @@ const FAULTS: [Case; 5] = [
             sent: &[(CALLER, STARTOK), (CALLER, STARTOK)],
             lines: b"serving 0\nend 0 stop tak",
         },
+        log: b"",
     },
 ];
 
-#[test]
-fn failing_calls_have_their_ends(rt: HostRuntime) -> Result<(), Fail> {
-    check(&rt, rt.alloc(), COUNTER, false, &FAULTS)
-}
-
-const REFUSALS: [Case; 1] = [Case {
+static REFUSALS: [Case; 1] = [Case {
+    setting: &COUNTING,
     arrivals: &[
         (CALLER, b""),
         (CALLER, KNOWN_TWICE),
@@ -270,7 +200,7 @@ const REFUSALS: [Case; 1] = [Case {
         (CALLER, FETCH_OF_NOTHING),
         (CALLER, STOP),
     ],
-    failing: Failing::Nothing,
+    failing: NOTHING,
     turns: 9,
     end: ServeEnd::Done,
     seen: Seen {
@@ -288,15 +218,12 @@ ignored badinputs 1
 ignored nothere 1
 ",
     },
+    log: b"",
 }];
 
-#[test]
-fn refusals_are_counted(rt: HostRuntime) -> Result<(), Fail> {
-    check(&rt, rt.alloc(), COUNTER, true, &REFUSALS)
-}
-
 // The commits have an immediate edge from each to the other, and the fetch is of a shard that the workload lacks.
-const FORGED: [Case; 1] = [Case {
+static FORGED: [Case; 1] = [Case {
+    setting: &COUNTING_BANK,
     arrivals: &[
         (CALLER, ADD_OF_FIRST),
         (OTHER_CALLER, ADD_OF_SECOND),
@@ -305,7 +232,7 @@ const FORGED: [Case; 1] = [Case {
         (CALLER, FETCH_OF_FIRST),
         (CALLER, STOP),
     ],
-    failing: Failing::Nothing,
+    failing: NOTHING,
     turns: 9,
     end: ServeEnd::Done,
     seen: Seen {
@@ -319,9 +246,26 @@ const FORGED: [Case; 1] = [Case {
         ],
         lines: b"serving 0\nend 0 stop taken 6 skipped 0\n",
     },
+    log: b"",
 }];
 
+// Without a journal the disk is left alone.
+fn serves_one(rt: &impl Abort, alloc: Global, case: &Case, disk: &mut MemDisk) {
+    serves(rt, alloc, case, disk);
+    assert!(rt; disk.seen().is_empty());
+}
+
+fn serve_each(rt: &impl Abort, alloc: Global, cases: &[Case]) {
+    for case in cases {
+        serves_one(rt, alloc, case, &mut disk_of(rt, alloc, 0));
+    }
+}
+
 #[test]
-fn a_forged_cycle_runs_from_its_least_id(rt: HostRuntime) -> Result<(), Fail> {
-    check(&rt, rt.alloc(), BANK, true, &FORGED)
+fn servers_end_as_told(rt: HostRuntime) {
+    serve_each(&rt, rt.alloc(), &ROUNDS);
+    serve_each(&rt, rt.alloc(), &FAULTS);
+    serve_each(&rt, rt.alloc(), &REFUSALS);
+    serve_each(&rt, rt.alloc(), &FORGED);
+    serve_each(&rt, rt.alloc(), &SERVED);
 }

@@ -1,76 +1,19 @@
 //! Coordinators that submit requests: silence, answers and calls that fail.
-use crate::datagrams::{COMMIT, COMMITOK, Packet, START, STARTOK, STRANGE_START, TAG};
-use crate::outside::{Failing, Outside, Seen, have_seen, outside_of};
-use crate::workloads::{ANY, COUNTER, FIRST_SHARD};
-use roc_node_submit::{SubmitEnd, submit_all};
-use roc_sched::parse_requests;
+use crate::coordinators::{ANSWERS, Case, submits};
+use crate::datagrams::{COMMIT, START};
+use crate::logging::SUBMITTED;
+use crate::outside::{Failing, NOTHING, Seen};
+use crate::workloads::{ANY, FIRST_SHARD};
+use roc_node_submit::SubmitEnd;
 use std::alloc::Global;
 use std::process::Abort;
-use std::test::Fail;
 
-// The requests of coordinator 0, what comes to it and which call fails, and what is to come of it.
-#[derive(Clone, Copy)]
-struct Case {
-    requests: &'static [u8],
-    arrivals: &'static [Packet],
-    failing: Failing,
-    turns: u32,
-    end: SubmitEnd,
-    seen: Seen,
-}
-
-/// Submits requests for the counter, with the log of a name or without one.
-pub(crate) fn submit(
-    rt: &impl Abort,
-    alloc: Global,
-    requests: &[u8],
-    outside: &mut Outside,
-    turns: u32,
-    log: Option<&str>,
-) -> Result<SubmitEnd, Fail> {
-    let plan = COUNTER.plan(alloc)?;
-    let cluster = COUNTER.cluster_of(alloc, &plan)?;
-    let shards = usize::from(plan.workload().shards());
-    assert_eq!(rt; cluster.addrs().len(), shards);
-    let requests = parse_requests(alloc, requests)?;
-    let Outside { link, out, book } = outside;
-    Ok(submit_all(
-        alloc, &plan, TAG, 0, &cluster, &requests, link, turns, out, log, book,
-    ))
-}
-
-fn check_run(
-    rt: &impl Abort,
-    alloc: Global,
-    case: &Case,
-    outside: &mut Outside,
-) -> Result<(), Fail> {
-    let end = submit(rt, alloc, case.requests, outside, case.turns, None)?;
-    let name = case.seen.name;
-    assert_eq!(rt; end, case.end, "{name}");
-    have_seen(rt, outside, case.seen, b"")
-}
-
-fn check(rt: &impl Abort, alloc: Global, cases: &[Case]) -> Result<(), Fail> {
-    for case in cases {
-        let mut outside = outside_of(alloc, case.arrivals, case.failing)?;
-        check_run(rt, alloc, case, &mut outside)?;
-    }
-    Ok(())
-}
-
-// What comes to a coordinator for one addition.
-const ANSWERS: [Packet; 3] = [
-    (FIRST_SHARD, STRANGE_START),
-    (FIRST_SHARD, STARTOK),
-    (FIRST_SHARD, COMMITOK),
-];
-
-const RUNS: [Case; 5] = [
+static RUNS: [Case; 5] = [
     Case {
         requests: b"add 5\n",
         arrivals: &[],
-        failing: Failing::Nothing,
+        failing: NOTHING,
+        name: None,
         turns: 3,
         end: SubmitEnd::Unanswered,
         seen: Seen {
@@ -87,12 +30,14 @@ unanswered 0.0
 end 0 answered 1 unanswered 0 unsubmitted
 ",
         },
+        log: b"",
     },
     // Nothing is received: the receive would fail.
     Case {
         requests: b"",
         arrivals: &ANSWERS,
-        failing: Failing::Call(2),
+        failing: Failing { call: 2, ..NOTHING },
+        name: None,
         turns: 3,
         end: SubmitEnd::Done,
         seen: Seen {
@@ -101,11 +46,13 @@ end 0 answered 1 unanswered 0 unsubmitted
             sent: &[],
             lines: b"end 0 answered 0 unanswered 0 unsubmitted\n",
         },
+        log: b"",
     },
     Case {
         requests: b"add 5\n",
         arrivals: &ANSWERS,
-        failing: Failing::Call(5),
+        failing: Failing { call: 5, ..NOTHING },
+        name: None,
         turns: 9,
         end: SubmitEnd::Done,
         seen: Seen {
@@ -117,12 +64,14 @@ answer 0.0 0
 end 1 answered 0 unanswered 0 unsubmitted
 ",
         },
+        log: b"",
     },
     // The second request has an argument too many.
     Case {
         requests: b"add 5\nadd 5 6\nadd 7\n",
         arrivals: &ANSWERS,
-        failing: Failing::Nothing,
+        failing: NOTHING,
+        name: None,
         turns: 3,
         end: SubmitEnd::Unanswered,
         seen: Seen {
@@ -134,11 +83,13 @@ answer 0.0 0
 end 1 answered 0 unanswered 2 unsubmitted
 ",
         },
+        log: b"",
     },
     Case {
         requests: b"add 5\n",
         arrivals: &[],
-        failing: Failing::Nothing,
+        failing: NOTHING,
+        name: None,
         turns: 0,
         end: SubmitEnd::Unanswered,
         seen: Seen {
@@ -147,19 +98,16 @@ end 1 answered 0 unanswered 2 unsubmitted
             sent: &[],
             lines: b"end 0 answered 0 unanswered 1 unsubmitted\n",
         },
+        log: b"",
     },
 ];
 
-#[test]
-fn requests_are_submitted(rt: HostRuntime) -> Result<(), Fail> {
-    check(&rt, rt.alloc(), &RUNS)
-}
-
-const FAULTS: [Case; 6] = [
+static FAULTS: [Case; 6] = [
     Case {
         requests: b"add 5\n",
         arrivals: &ANSWERS,
-        failing: Failing::Call(1),
+        failing: Failing { call: 1, ..NOTHING },
+        name: None,
         turns: 9,
         end: SubmitEnd::LinkFault,
         seen: Seen {
@@ -168,11 +116,13 @@ const FAULTS: [Case; 6] = [
             sent: &[],
             lines: b"",
         },
+        log: b"",
     },
     Case {
         requests: b"add 5\n",
         arrivals: &ANSWERS,
-        failing: Failing::Call(4),
+        failing: Failing { call: 4, ..NOTHING },
+        name: None,
         turns: 9,
         end: SubmitEnd::LinkFault,
         seen: Seen {
@@ -181,11 +131,13 @@ const FAULTS: [Case; 6] = [
             sent: &[(FIRST_SHARD, START), (FIRST_SHARD, COMMIT)],
             lines: b"submit 0.0 add 5\n",
         },
+        log: b"",
     },
     Case {
         requests: b"add 5\n",
         arrivals: &ANSWERS,
-        failing: Failing::Send(1),
+        failing: Failing { send: 1, ..NOTHING },
+        name: None,
         turns: 9,
         end: SubmitEnd::Done,
         seen: Seen {
@@ -197,12 +149,17 @@ answer 0.0 0
 end 1 answered 0 unanswered 0 unsubmitted
 ",
         },
+        log: b"",
     },
     // A write that fails takes half of its text, and nothing is sent behind it.
     Case {
         requests: b"add 5\n",
         arrivals: &ANSWERS,
-        failing: Failing::Write(1),
+        failing: Failing {
+            write: 1,
+            ..NOTHING
+        },
+        name: None,
         turns: 9,
         end: SubmitEnd::SinkFault,
         seen: Seen {
@@ -211,11 +168,16 @@ end 1 answered 0 unanswered 0 unsubmitted
             sent: &[],
             lines: b"submit 0",
         },
+        log: b"",
     },
     Case {
         requests: b"add 5\n",
         arrivals: &ANSWERS,
-        failing: Failing::Write(2),
+        failing: Failing {
+            write: 2,
+            ..NOTHING
+        },
+        name: None,
         turns: 9,
         end: SubmitEnd::SinkFault,
         seen: Seen {
@@ -224,11 +186,16 @@ end 1 answered 0 unanswered 0 unsubmitted
             sent: &[(FIRST_SHARD, START), (FIRST_SHARD, COMMIT)],
             lines: b"submit 0.0 add 5\nanswer",
         },
+        log: b"",
     },
     Case {
         requests: b"add 5\n",
         arrivals: &ANSWERS,
-        failing: Failing::Write(3),
+        failing: Failing {
+            write: 3,
+            ..NOTHING
+        },
+        name: None,
         turns: 9,
         end: SubmitEnd::SinkFault,
         seen: Seen {
@@ -237,10 +204,19 @@ end 1 answered 0 unanswered 0 unsubmitted
             sent: &[(FIRST_SHARD, START), (FIRST_SHARD, COMMIT)],
             lines: b"submit 0.0 add 5\nanswer 0.0 0\nend 1 answered 0 unan",
         },
+        log: b"",
     },
 ];
 
+fn submit_each(rt: &impl Abort, alloc: Global, cases: &[Case]) {
+    for case in cases {
+        submits(rt, alloc, case);
+    }
+}
+
 #[test]
-fn failing_calls_have_their_ends(rt: HostRuntime) -> Result<(), Fail> {
-    check(&rt, rt.alloc(), &FAULTS)
+fn coordinators_end_as_told(rt: HostRuntime) {
+    submit_each(&rt, rt.alloc(), &RUNS);
+    submit_each(&rt, rt.alloc(), &FAULTS);
+    submit_each(&rt, rt.alloc(), &SUBMITTED);
 }

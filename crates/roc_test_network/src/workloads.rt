@@ -5,10 +5,9 @@ use roc_cluster::{Cluster, parse_cluster};
 use roc_io::Addr;
 use roc_plan::Plan;
 use std::alloc::Global;
-use std::test::Fail;
+use std::process::Abort;
 
 /// A workload and a cluster that runs it, as texts.
-#[derive(Clone, Copy)]
 pub(crate) struct Texts {
     pub workload: &'static [u8],
     pub cluster: &'static [u8],
@@ -69,14 +68,12 @@ pub(crate) const ANY: Addr = Addr {
     port: 0,
 };
 
-impl Texts {
-    /// The plan of the workload.
-    pub(crate) fn plan(self, alloc: Global) -> Result<Plan, Fail> {
-        Ok(check(alloc, self.workload)?)
-    }
+/// The plan of a workload.
+pub(crate) fn plan_of(rt: &impl Abort, alloc: Global, texts: &Texts) -> Plan {
+    check(alloc, texts.workload).expect(rt, "a plan")
+}
 
-    /// The cluster, of so many shards as the plan has.
-    pub(crate) fn cluster_of(self, alloc: Global, plan: &Plan) -> Result<Cluster, Fail> {
-        Ok(parse_cluster(alloc, self.cluster, plan.workload().shards())?)
-    }
+/// The cluster that runs it, of so many shards as its plan has.
+pub(crate) fn cluster_of(rt: &impl Abort, alloc: Global, texts: &Texts, plan: &Plan) -> Cluster {
+    parse_cluster(alloc, texts.cluster, plan.workload().shards()).expect(rt, "a cluster")
 }
