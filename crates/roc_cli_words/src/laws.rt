@@ -8,7 +8,7 @@ ghost use Rattle.roc_cli_words.specs.Commands.{Command, most_logs};
 ghost use Rattle.roc_cli_words.specs.Values.{turns_in, coords_in, seed_in, shards_in, txns_in, part_in};
 ghost use Rattle.roc_cli_words.specs.Worded.{server_words, coordinator_words, next_words, later_words, AreForServer, AreForCoordinator};
 
-/// `check W`, `print W`, `replay W S`, also with `--next W2 --coords M`, and, of 1 to 80 logs, `audit W LOGS..` are taken and ask for just that, of all names that are
+/// `check W`, `print W`, `replay W S`, also with `--next NEXT --coords M`, and, of 1 to 80 logs, `audit W LOGS..` are taken and ask for just that, of all names that are
 /// not empty and do not begin with a dash. More logs are refused.
 pub fn files_are_named()
     ensures check { (workload : Text) → IsPlainWord workload → AreWordsOf (codes "check" ∷ workload ∷ []) (Command.check workload) }

@@ -22,7 +22,7 @@ use Rattle.roc_io.proofs.Told.{Adds-nil, Adds-trans}
 use Rattle.roc_io.specs.Call.{LinkView}
 use Rattle.roc_io.specs.Link.{LinkEvent, sending, receiving, came, none_came, vain}
 use Rattle.roc_io.specs.Observed.{Adds, AddsFront}
-use Rattle.roc_io.specs.Sink.{AddsCut, piece_of}
+use Rattle.roc_io.specs.Sink.{AddsCut, text_piece}
 use Rattle.roc_io.specs.declared.link.Addr.{Addr}
 use Rattle.roc_msg.specs.declared.msg.Msg.{Msg}
 use Rattle.roc_node.proofs.Moving.{Moves-trans, Moves-before, Moves-none}
@@ -211,9 +211,9 @@ halved S number requests later count old new a b c r h =
       is = submitted_node S requests later old new output r.messages r.traffic r.lines m;
       pieces = r.pieces;
       written = r.written;
-      does = subst (λ t. Does (r.traffic ++ map sending output.sends.items) (lines_text (naming S) (r.lines ++ m.lines)) (r.pieces ++ piece_of t) a c)
+      does = subst (λ t. Does (r.traffic ++ map sending output.sends.items) (lines_text (naming S) (r.lines ++ m.lines)) (r.pieces ++ text_piece t) a c)
           (m.shows ∙ ap (λ (s : GrownSubmissions). lines_text (naming S) s.lines) (sym m.is))
-          (told_more (naming S) r.traffic (map sending output.sends.items) r.lines m.lines r.pieces (piece_of output.text.items) output.text.items a b c m.shows r.does h.2);
+          (told_more (naming S) r.traffic (map sending output.sends.items) r.lines m.lines r.pieces (text_piece output.text.items) output.text.items a b c m.shows r.does h.2);
     }
 
 -- it is not over, as the bare node tells
@@ -236,7 +236,7 @@ pub grown_ran_more : (S : GrownNodeSetting) (number : ℕ) (requests later : Lis
 grown_ran_more S number requests later count old mid new a b c d r s not t =
     let h = halved S number requests later count old mid a b c r s in
     let event = t.0 in let output = t.1 in let takes = t.2 in let step = grown_step_of_event S mid.coord event in let sends = map sending output.sends.items in
-    let before = piece_of (grown_submissions_text S h.node) in
+    let before = text_piece (grown_submissions_text S h.node) in
     let not_over = goes S number requests later count mid a c h false not in
     let reply : output.text.items ≡ grown_reply_text S h.node event =
     takes.shows ∙ ap (λ (n : GrownCoordNodeState). lines_text (naming S) (grown_reply_lines (grown_step_of_event S n.state event).answer)) (sym h.is) in record {
@@ -246,12 +246,12 @@ grown_ran_more S number requests later count old mid new a b c d r s not t =
       lines = h.lines ++ lines_then S mid.coord event;
       counted = let e = h.counted in length-append h.events (event ∷ []) ∙ ap (λ n. n + 1) e;
       run = subst (IsGrownCoordRun S number requests later (h.events ++ event ∷ [])) (turned S number requests later count mid new a c h event output takes) (goes_on event h.run not_over);
-      pieces = h.pieces ++ (before ++ piece_of (grown_reply_text S h.node event));
-      written = subst (λ (n : GrownCoordNodeState). AreGrownWritten S number requests later (h.events ++ event ∷ []) n (h.pieces ++ (before ++ piece_of (grown_reply_text S h.node event))))
+      pieces = h.pieces ++ (before ++ text_piece (grown_reply_text S h.node event));
+      written = subst (λ (n : GrownCoordNodeState). AreGrownWritten S number requests later (h.events ++ event ∷ []) n (h.pieces ++ (before ++ text_piece (grown_reply_text S h.node event))))
           (turned S number requests later count mid new a c h event output takes) (turn_written event h.written not_over);
-      does = subst (λ l. Does l (lines_text (naming S) (h.lines ++ lines_then S mid.coord event)) (h.pieces ++ (before ++ piece_of (grown_reply_text S h.node event))) a d)
+      does = subst (λ l. Does l (lines_text (naming S) (h.lines ++ lines_then S mid.coord event)) (h.pieces ++ (before ++ text_piece (grown_reply_text S h.node event))) a d)
           (sym (append_assoc h.traffic (receive_of event ∷ []) sends))
           (subst (λ w. Does (h.traffic ++ receive_of event ∷ sends) (lines_text (naming S) (h.lines ++ lines_then S mid.coord event)) w a d)
-          (append_assoc h.pieces before (piece_of output.text.items) ∙ ap (λ t. h.pieces ++ (before ++ piece_of t)) reply)
-          (told_more (naming S) h.traffic (receive_of event ∷ sends) h.lines (lines_then S mid.coord event) (h.pieces ++ before) (piece_of output.text.items) output.text.items a c d takes.shows h.does t.3));
+          (append_assoc h.pieces before (text_piece output.text.items) ∙ ap (λ t. h.pieces ++ (before ++ text_piece t)) reply)
+          (told_more (naming S) h.traffic (receive_of event ∷ sends) h.lines (lines_then S mid.coord event) (h.pieces ++ before) (text_piece output.text.items) output.text.items a c d takes.shows h.does t.3));
     }

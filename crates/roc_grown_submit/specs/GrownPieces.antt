@@ -5,7 +5,7 @@ use Rattle.roc_grown_submit.specs.GrownCoordRun.{GrownCoordNodeState, first_grow
 use Rattle.roc_grown_submit.specs.GrownCoordRun.{grown_step_of_event, grown_reply_lines}
 use Rattle.roc_grown_submit.specs.GrownEnd.{naming, grown_half, grown_closing_text}
 use Rattle.roc_io.specs.Observed.{Adds}
-use Rattle.roc_io.specs.Sink.{AddsCut, piece_of}
+use Rattle.roc_io.specs.Sink.{AddsCut, text_piece}
 use Rattle.roc_node.specs.NodeEvent.{NodeEvent}
 use Rattle.roc_node_submit.specs.Pieces.{has_last_lines, ends_in_turns}
 use Rattle.roc_node_submit.specs.declared.ends.SubmitEnd.{SubmitEnd}
@@ -28,11 +28,11 @@ pub data AreGrownWritten (S : GrownNodeSetting) (number : ℕ) (requests later :
   turn_written : {events : List NodeEvent} {node : GrownCoordNodeState} {pieces : List (List ℕ)} (event : NodeEvent) → AreGrownWritten S number requests later events node pieces
       → are_all_answered (grown_submitted_node S node) ≡ false
       → AreGrownWritten S number requests later (events ++ event ∷ []) (grown_coord_turn S node event)
-      (pieces ++ (piece_of (grown_submissions_text S node) ++ piece_of (grown_reply_text S node event)))
+      (pieces ++ (text_piece (grown_submissions_text S node) ++ text_piece (grown_reply_text S node event)))
 
 -- the same, or with the submissions of the next turn
 abbrev pub grown_half_pieces : GrownNodeSetting → GrownCoordNodeState → (half : Bool) → List (List ℕ) → List (List ℕ)
-grown_half_pieces S node half pieces = if half then pieces ++ piece_of (grown_submissions_text S node) else pieces
+grown_half_pieces S node half pieces = if half then pieces ++ text_piece (grown_submissions_text S node) else pieces
 
 -- What each write gave until the end: those of the turns, and all last lines in one. One that failed took a front of its lines
 pub data WritesGrownInPieces (S : GrownNodeSetting) (number : ℕ) (requests later : List Request) (old new : Option (List (List ℕ))) : SubmitEnd → Type 0 where

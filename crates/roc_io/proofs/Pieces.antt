@@ -5,7 +5,7 @@ use Rattle.std.specs.Prelude.{Option}
 use Rattle.roc_io.specs.declared.sink.Written.{Written}
 use Rattle.roc_io.specs.declared.sink.Written.TheVariants.{Ok, Failed}
 use Rattle.roc_io.specs.Observed.{Adds}
-use Rattle.roc_io.specs.Sink.{AddsCut, TakesPiece, piece_of, WritesPiece}
+use Rattle.roc_io.specs.Sink.{AddsCut, TakesPiece, text_piece, WritesPiece}
 use Rattle.roc_io.proofs.Told.{Adds-nil, Adds-trans}
 
 -- a piece that was cut, behind others
@@ -17,7 +17,7 @@ pub none_behind : (a b c : Option (List (List ℕ))) (pieces : List (List ℕ)) 
 none_behind a b c pieces p q = subst (Adds a c) (append-nil pieces) (Adds-trans a b c pieces [] p q)
 
 -- an empty text is not written
-pub no_piece : (o : Option (List (List ℕ))) (text : List ℕ) → true ≡ (length text == 0) → Adds o o (piece_of text)
+pub no_piece : (o : Option (List (List ℕ))) (text : List ℕ) → true ≡ (length text == 0) → Adds o o (text_piece text)
 no_piece o [] is = Adds-nil o
 no_piece o (byte ∷ bytes) is = absurd (let none = eqb-true (length (byte ∷ bytes)) 0 (sym is) in omega arith)
 

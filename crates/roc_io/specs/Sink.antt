@@ -25,11 +25,11 @@ TakesPiece Ok taken_old taken_new old new piece = Adds old new (piece ∷ [])
 TakesPiece Failed taken_old taken_new old new piece = (n : ℕ) × Adds taken_old taken_new (take n piece) × Adds old new (take n piece ∷ [])
 
 -- a text is one piece, and none where it is empty
-abbrev pub piece_of : List ℕ → List (List ℕ)
-piece_of [] = []
-piece_of (byte ∷ bytes) = (byte ∷ bytes) ∷ []
+abbrev pub text_piece : List ℕ → List (List ℕ)
+text_piece [] = []
+text_piece (byte ∷ bytes) = (byte ∷ bytes) ∷ []
 
 -- a text was written in one piece, unless it is empty
 abbrev pub WritesPiece : Written → (old new : Option (List (List ℕ))) → List ℕ → Type 0
-WritesPiece Ok old new text = Adds old new (piece_of text)
+WritesPiece Ok old new text = Adds old new (text_piece text)
 WritesPiece Failed old new text = AddsCut old new [] text

@@ -4,7 +4,7 @@ use Rattle.roc_io.specs.declared.link.Addr.{Addr}
 use Rattle.roc_io.specs.Link.{LinkEvent, sending, receiving, came, none_came, vain}
 use Rattle.roc_io.specs.declared.sink.Written.TheVariants.{Failed}
 use Rattle.roc_io.specs.Observed.{Adds, AddsFront}
-use Rattle.roc_io.specs.Sink.{AddsCut, piece_of}
+use Rattle.roc_io.specs.Sink.{AddsCut, text_piece}
 use Rattle.roc_io.proofs.Told.{Adds-nil}
 use Rattle.roc_book.specs.Call.{BookView}
 use Rattle.roc_log.specs.declared.line.LogLine.{LogLine}
@@ -225,9 +225,9 @@ halved S logs number requests count old new a b c r goes h =
       is = submitted_node S logs requests old new output r.messages r.traffic r.lines r.logged m;
       pieces = r.pieces;
       written = r.written;
-      does = subst (λ t. Does logs (r.traffic ++ map sending output.sends.items) (report_text S.plan.program (r.lines ++ m.lines)) (r.pieces ++ piece_of t) (lines_text S.plan.program (r.logged ++ m.logged)) a c)
+      does = subst (λ t. Does logs (r.traffic ++ map sending output.sends.items) (report_text S.plan.program (r.lines ++ m.lines)) (r.pieces ++ text_piece t) (lines_text S.plan.program (r.logged ++ m.logged)) a c)
           (m.shows ∙ ap (λ (s : Submissions). report_text S.plan.program s.lines) (sym m.is))
-          (told_more S.plan.program logs r.traffic (map sending output.sends.items) r.lines m.lines r.pieces (piece_of output.text.items) r.logged m.logged output.text.items a b c m.shows r.does h.2);
+          (told_more S.plan.program logs r.traffic (map sending output.sends.items) r.lines m.lines r.pieces (text_piece output.text.items) r.logged m.logged output.text.items a b c m.shows r.does h.2);
     }
 
 -- the node behind an event
@@ -246,7 +246,7 @@ pub coord_ran_more : (S : NodeSetting) (logs : Bool) (number : ℕ) (requests : 
 coord_ran_more S logs number requests count old mid new a b c d r goes s t =
     let h = halved S logs number requests count old mid a b c r goes s in
     let event = t.0 in let output = t.1 in let takes = t.2 in let step = step_of_event S mid.coord event in let sends = map sending output.sends.items in
-    let before = piece_of (submissions_text S h.node) in
+    let before = text_piece (submissions_text S h.node) in
     let reply : output.text.items ≡ reply_text S h.node event =
     takes.shows ∙ ap (λ (n : CoordNodeState). report_text S.plan.program (reply_lines (step_of_event S n.state event).answer)) (sym h.is) in record {
       events = h.events ++ event ∷ [];
@@ -256,14 +256,14 @@ coord_ran_more S logs number requests count old mid new a b c d r goes s t =
       logged = h.logged ++ logged_of S mid.coord event;
       counted = let e = h.counted in length-append h.events (event ∷ []) ∙ ap (λ n. n + 1) e;
       run = subst (IsCoordRun S number requests (h.events ++ event ∷ [])) (turned S logs number requests count mid new a c h event output takes) (goes_on event h.run h.goes);
-      pieces = h.pieces ++ (before ++ piece_of (reply_text S h.node event));
-      written = subst (λ (n : CoordNodeState). AreWritten S number requests (h.events ++ event ∷ []) n (h.pieces ++ (before ++ piece_of (reply_text S h.node event))))
+      pieces = h.pieces ++ (before ++ text_piece (reply_text S h.node event));
+      written = subst (λ (n : CoordNodeState). AreWritten S number requests (h.events ++ event ∷ []) n (h.pieces ++ (before ++ text_piece (reply_text S h.node event))))
           (turned S logs number requests count mid new a c h event output takes) (turn_written event h.written h.goes);
-      does = subst (λ l. Does logs l (report_text S.plan.program (h.lines ++ reply_lines step.answer)) (h.pieces ++ (before ++ piece_of (reply_text S h.node event)))
+      does = subst (λ l. Does logs l (report_text S.plan.program (h.lines ++ reply_lines step.answer)) (h.pieces ++ (before ++ text_piece (reply_text S h.node event)))
           (lines_text S.plan.program (h.logged ++ logged_of S mid.coord event)) a d)
           (sym (append_assoc h.traffic (receive_of event ∷ []) sends))
           (subst (λ w. Does logs (h.traffic ++ receive_of event ∷ sends) (report_text S.plan.program (h.lines ++ reply_lines step.answer)) w (lines_text S.plan.program (h.logged ++ logged_of S mid.coord event)) a d)
-          (append_assoc h.pieces before (piece_of output.text.items) ∙ ap (λ t. h.pieces ++ (before ++ piece_of t)) reply)
-          (told_more S.plan.program logs h.traffic (receive_of event ∷ sends) h.lines (reply_lines step.answer) (h.pieces ++ before) (piece_of output.text.items) h.logged (logged_of S mid.coord event)
+          (append_assoc h.pieces before (text_piece output.text.items) ∙ ap (λ t. h.pieces ++ (before ++ text_piece t)) reply)
+          (told_more S.plan.program logs h.traffic (receive_of event ∷ sends) h.lines (reply_lines step.answer) (h.pieces ++ before) (text_piece output.text.items) h.logged (logged_of S mid.coord event)
           output.text.items a c d takes.shows h.does t.3));
     }

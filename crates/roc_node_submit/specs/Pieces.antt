@@ -1,7 +1,7 @@
 -- In how many writes a coordinator's node writes: docs/FORMATS.md, "Lines of nodes"
 use Rattle.std.specs.Prelude.{◌≡◌, ℕ, Bool, true, false, List, [], ◌∷◌, ◌++◌, Option, if◌then◌else◌}
 use Rattle.roc_io.specs.Observed.{Adds}
-use Rattle.roc_io.specs.Sink.{AddsCut, piece_of}
+use Rattle.roc_io.specs.Sink.{AddsCut, text_piece}
 use Rattle.roc_report.specs.Text.{lines_text as report_text}
 use Rattle.roc_sched.specs.declared.line.Request.{Request}
 use Rattle.roc_node.specs.NodeEvent.{NodeEvent, NodeSetting}
@@ -23,11 +23,11 @@ reply_text S node event = report_text S.plan.program (reply_lines (step_of_event
 pub data AreWritten (S : NodeSetting) (number : ℕ) (requests : List Request) : List NodeEvent → CoordNodeState → List (List ℕ) → Type 0 where
   none_written : AreWritten S number requests [] (first_coord_node_state number requests) []
   turn_written : {events : List NodeEvent} {node : CoordNodeState} {pieces : List (List ℕ)} (event : NodeEvent) → AreWritten S number requests events node pieces → is_answered node ≡ false
-      → AreWritten S number requests (events ++ event ∷ []) (coord_turn S node event) (pieces ++ (piece_of (submissions_text S node) ++ piece_of (reply_text S node event)))
+      → AreWritten S number requests (events ++ event ∷ []) (coord_turn S node event) (pieces ++ (text_piece (submissions_text S node) ++ text_piece (reply_text S node event)))
 
 -- the same, or with the submissions of the next turn
 abbrev pub half_pieces : NodeSetting → CoordNodeState → (half : Bool) → List (List ℕ) → List (List ℕ)
-half_pieces S node half pieces = if half then pieces ++ piece_of (submissions_text S node) else pieces
+half_pieces S node half pieces = if half then pieces ++ text_piece (submissions_text S node) else pieces
 
 -- the last lines were written
 abbrev pub has_last_lines : SubmitEnd → Bool

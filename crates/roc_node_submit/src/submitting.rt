@@ -56,7 +56,8 @@ pub fn submit_turns<L: Link, S: Sink, B: Book>(
     ensures bound { L.bound link.new ≡ L.bound link.old }
     // Without a log the book is not touched.
     ensures book_stays { logs ≡ false → book.new ≡ book.old }
-    // All lines of the submissions before a turn go out in one write, and all last lines in one; where there are none, there is no write.
+    // All lines of the submissions before a turn go out in one write, the line of what it received in one, and all last lines in one; where there
+    // are none, there is no write.
     ensures pieces { WritesTurnsInPieces (node_setting plan.now tag (node.Coord coord) cluster.now) coord requests.now (S.pieces out.old) (S.pieces out.new) result }
     // What the node's run gives over the arrivals is what was sent and written, and what the log has, whatever name it was begun under.
     ensures submits { (log : Option (List ℕ)) → (begun : BookView)

@@ -9,7 +9,7 @@ ghost use Rattle.roc_growth.specs.Fits.{FitsGrown};
 ghost use Rattle.roc_growth.specs.World.{first_grown_world};
 ghost use Rattle.roc_growth.specs.Run.{AreCoordsOf, IsEventOf};
 ghost use Rattle.roc_growth.specs.Quiet.{messages_of};
-ghost use Rattle.roc_replay.specs.BoundLine.{IsScheduleOf, WantedFits, coordinators, last_program, chosen, event_in};
+ghost use Rattle.roc_replay.specs.BoundLine.{IsScheduleOf, WantedFits, coordinators, chosen, event_in};
 ghost use Rattle.roc_replay.specs.Inner.Closed.{IsClosed, ClosesInPiece, is_sent_to, asks_unsent, wants_unsent};
 ghost use Rattle.roc_replay.specs.Ended.{is_sink_fault};
 ghost use Rattle.roc_replay.specs.Inner.Ends.{IsEnd};

@@ -13,7 +13,7 @@ use Rattle.roc_grown_submit.specs.declared.coord_node.TurnOutput.{TurnOutput}
 use Rattle.roc_io.specs.Call.{LinkView, link_view}
 use Rattle.roc_io.specs.Link.{LinkEvent, Reception, sending, receiving, vain}
 use Rattle.roc_io.specs.Observed.{Adds, AddsFront}
-use Rattle.roc_io.specs.Sink.{AddsCut, piece_of}
+use Rattle.roc_io.specs.Sink.{AddsCut, text_piece}
 use Rattle.roc_io.specs.declared.link.Link.{Ghosts as LinkOf}
 use Rattle.roc_io.specs.declared.sink.Sink.{Ghosts as SinkOf}
 use Rattle.roc_msg.specs.declared.outbox.Outgoing.{Outgoing}
@@ -70,7 +70,7 @@ pub record FailsSink (traffic : List LinkEvent) (text : List ℕ) (old new : See
 
 -- What became of what is due. It goes to the sink first, and then to the link, until one fails
 abbrev pub PutsOut : Result (Unit {0}) SubmitEnd → TurnOutput → (old new : Seen) → Type 0
-PutsOut (Ok u) output old new = Does (map sending output.sends.items) output.text.items (piece_of output.text.items) old new
+PutsOut (Ok u) output old new = Does (map sending output.sends.items) output.text.items (text_piece output.text.items) old new
 PutsOut (Err SinkFault) output old new = FailsSink [] output.text.items old new
 PutsOut (Err Done) output old new = ⊥
 PutsOut (Err Unanswered) output old new = ⊥
@@ -203,7 +203,7 @@ lines_from S requests later old = (grown_submissions_of S (bare_node old request
 -- what the drain and the submissions before a turn did to the link and the sink
 abbrev pub HalfSubmits : Result (Unit {0}) SubmitEnd → GrownNodeSetting → (requests later : List Request) → (old new : CoordNode) → (before after : Seen) → Type 0
 HalfSubmits (Ok u) S requests later old new before after =
-    (output : TurnOutput) × SubmitsHalf S requests later old new output × Does (map sending output.sends.items) output.text.items (piece_of output.text.items) before after
+    (output : TurnOutput) × SubmitsHalf S requests later old new output × Does (map sending output.sends.items) output.text.items (text_piece output.text.items) before after
 HalfSubmits (Err NoMemory) S requests later old new before after = Does [] [] [] before after
 HalfSubmits (Err SinkFault) S requests later old new before after = FailsSink [] (lines_text (naming S) (lines_from S requests later old)) before after
 HalfSubmits (Err Done) S requests later old new before after = ⊥
@@ -243,7 +243,7 @@ lines_then S s event = grown_reply_lines (grown_step_of_event S s event).answer
 abbrev pub HalfTakes : Result (Unit {0}) SubmitEnd → GrownNodeSetting → (old new : CoordNode) → (before after : Seen) → Type 0
 HalfTakes (Ok u) S old new before after =
     (event : NodeEvent) × (output : TurnOutput) × TakesHalf S event old new output
-    × Does (receive_of event ∷ map sending output.sends.items) output.text.items (piece_of output.text.items) before after
+    × Does (receive_of event ∷ map sending output.sends.items) output.text.items (text_piece output.text.items) before after
 HalfTakes (Err NoMemory) S old new before after = (last : List Reception) × (length last ≤ 1) × Does (map receiving last) [] [] before after
 HalfTakes (Err LinkFault) S old new before after = Does (receiving vain ∷ []) [] [] before after
 HalfTakes (Err SinkFault) S old new before after = (event : NodeEvent) × FailsSink (receive_of event ∷ []) (lines_text (naming S) (lines_then S old.coord event)) before after

@@ -2,7 +2,7 @@
 use Rattle.std.specs.Prelude.{◌≡◌, ◌⊎◌, ℕ, ◌≤◌, Bool, true, false, List, [], ◌∷◌, ◌++◌, drop, take, length, map, Option, is_some, Result, Ok, Err, if◌then◌else◌}
 use Rattle.roc_io.specs.Link.{LinkEvent, Reception, sending, receiving, vain}
 use Rattle.roc_io.specs.Observed.{Adds, AddsFront}
-use Rattle.roc_io.specs.Sink.{AddsCut, piece_of}
+use Rattle.roc_io.specs.Sink.{AddsCut, text_piece}
 use Rattle.roc_io.specs.declared.sink.Written.{Written}
 use Rattle.roc_io.specs.declared.sink.Written.TheVariants.{Ok as WrittenOk, Failed}
 use Rattle.roc_coord.specs.State.{CoordState, CoordStep}
@@ -88,7 +88,7 @@ pub record FailsBook (logs : Bool) (traffic : List LinkEvent) (log : List ℕ) (
 
 -- What became of what is due, of which this is logged. It goes to the book first, then to the sink, and then to the link, until one fails
 abbrev pub PutsOut : Result (Unit {0}) SubmitEnd → (logs : Bool) → TurnOutput → (log : List ℕ) → (old new : Seen) → Type 0
-PutsOut (Ok u) logs output log old new = Does logs (map sending output.sends.items) output.text.items (piece_of output.text.items) log old new
+PutsOut (Ok u) logs output log old new = Does logs (map sending output.sends.items) output.text.items (text_piece output.text.items) log old new
 PutsOut (Err SinkFault) logs output log old new = FailsSink logs [] output.text.items log old new
 PutsOut (Err BookFault) logs output log old new = FailsBook logs [] log old new
 PutsOut (Err Done) logs output log old new = ⊥
@@ -193,7 +193,7 @@ submissions_from S requests old = submitted_all S (none_submitted old.coord) (dr
 abbrev pub HalfSubmits : Result (Unit {0}) SubmitEnd → NodeSetting → (logs : Bool) → List Request → (old new : CoordNode) → (before after : Seen) → Type 0
 HalfSubmits (Ok u) S logs requests old new before after =
     (output : TurnOutput) × (h : SubmitsHalf S logs requests old new output)
-    × Does logs (map sending output.sends.items) output.text.items (piece_of output.text.items) (lines_text S.plan.program h.logged) before after
+    × Does logs (map sending output.sends.items) output.text.items (text_piece output.text.items) (lines_text S.plan.program h.logged) before after
 HalfSubmits (Err NoMemory) S logs requests old new before after = Does logs [] [] [] [] before after
 HalfSubmits (Err SinkFault) S logs requests old new before after =
     FailsSink logs [] (report_text S.plan.program (submissions_from S requests old).lines) (lines_text S.plan.program (submissions_from S requests old).logged) before after
@@ -226,7 +226,7 @@ due_failed (Err end) = submit_link_failed end
 abbrev pub HalfTakes : Result (Unit {0}) SubmitEnd → NodeSetting → (logs : Bool) → (old new : CoordNode) → (before after : Seen) → Type 0
 HalfTakes (Ok u) S logs old new before after =
     (event : NodeEvent) × (output : TurnOutput) × TakesHalf S logs event old new output
-    × Does logs (receive_of event ∷ map sending output.sends.items) output.text.items (piece_of output.text.items) (lines_text S.plan.program (logged_of S old.coord event)) before after
+    × Does logs (receive_of event ∷ map sending output.sends.items) output.text.items (text_piece output.text.items) (lines_text S.plan.program (logged_of S old.coord event)) before after
 HalfTakes (Err NoMemory) S logs old new before after = (last : List Reception) × (length last ≤ 1) × Does logs (map receiving last) [] [] [] before after
 HalfTakes (Err LinkFault) S logs old new before after = Does logs (receiving vain ∷ []) [] [] [] before after
 HalfTakes (Err SinkFault) S logs old new before after =
