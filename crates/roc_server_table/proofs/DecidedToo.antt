@@ -1,5 +1,5 @@
 -- Transactions are decided too: their rows are marked
-use Rattle.std.proofs.Common.{◌≡◌, ◌≢◌, ◌⊎◌, ◌<◌, ◌+◌, inl, inr, ℕ, Bool, true, false, List, [], ◌∷◌, ◌++◌, length, take, get_or, set, Option, Some, None, refl, sym, ap, ◌∙◌, subst, arith}
+use Rattle.std.proofs.Common.{◌≡◌, ◌≢◌, ◌⊎◌, ◌<◌, ◌+◌, inl, inr, ℕ, Bool, true, false, List, [], ◌∷◌, ◌++◌, length, filter, take, get_or, set, Option, Some, None, refl, sym, ap, ◌∙◌, subst, arith}
 use Rattle.std.proofs.lemmas.Bool.{false≢true}
 use Rattle.std.proofs.lemmas.Bool.Decides.{nat_tests}
 use Rattle.std.proofs.lemmas.List.{get_or-set_same, get_or-set_other}
@@ -22,11 +22,12 @@ use Rattle.roc_server_table.specs.declared.rows.Link.{Link}
 use Rattle.roc_server_table.specs.declared.rows.Row.{Row}
 use Rattle.roc_server_table.specs.declared.rows.Parts.{Parts}
 use Rattle.roc_server_table.specs.declared.marks.Mark.{Mark}
-use Rattle.roc_server_table.specs.Inner.Rows.{row_at, is_alive, is_told, links_of}
-use Rattle.roc_server_table.specs.Inner.Marks.{no_mark, mark_at, AreMarked, WaitsOn}
+use Rattle.roc_server_table.specs.Inner.Rows.{row_at, is_alive, is_told, links_of, IsWhole}
+use Rattle.roc_server_table.specs.Inner.Marks.{no_mark, mark_at, is_open, AreMarked, AreOpen, WaitsOn}
 use Rattle.roc_server_table.specs.Inner.Kept.{decided_of, AreDecidedToo, IsDecidedAt, IsKept}
 use Rattle.roc_server_table.proofs.Alive.{numbers_differ, alive_live, row_within}
 use Rattle.roc_server_table.proofs.DecidedIds.{decided_at, decided_listed, listed_decided, mark_within}
+use Rattle.roc_server_table.proofs.OpenRows.{open_fewer}
 use Rattle.roc_server_table.proofs.DecidedRows.{closed_decided, link_named, waits_undecided}
 use Rattle.roc_server_table.proofs.KnownRows.{absent_links_known, links_told}
 
@@ -178,8 +179,29 @@ module _ (p : Parts) (marks marks2 : List Mark) (ids : List TxnId) (k : IsKept p
         waits = λ n w. subst (WaitsOn rows n) (sym (too.waits n)) (k.marked.waits n (subst (λ (l : Link). 0 < l.birth) (too.waits n) w));
       }
 
-  pub too_kept : IsKept p marks2
-  too_kept = record { whole = k.whole; marked = marked; each = too.each ∙ k.each }
+  pub too_kept : (q : Parts) → IsWhole q → q.rows.items ≡ rows → q.undecided.items ≡ filter (is_open rows marks2) p.undecided.items → IsKept q marks2
+  too_kept q whole same is =
+      record {
+        whole = whole;
+        marked = subst (λ (rs : List Row). AreMarked rs marks2) (sym same) marked;
+        each = too.each ∙ (k.each ∙ ap length (sym same));
+        undecided = subst (λ (ns : List ℕ). AreOpen q.rows.items marks2 ns) (sym is) (subst (λ (rs : List Row). AreOpen rs marks2 (filter (is_open rows marks2) p.undecided.items)) (sym same) left);
+      }
+    where
+      was : (n : ℕ) (b : Bool) → (mark_at marks n).decided ≡ b → (mark_at marks2 n).decided ≡ false → (mark_at marks n).decided ≡ false
+      was n true e f = absurd (false≢true (sym f ∙ too.stay n e))
+      was n false e f = e
+
+      still : (n : ℕ) → 0 < (mark_at marks2 n).waits.birth → (b : Bool) → (mark_at marks2 n).decided ≡ b → (mark_at marks2 n).decided ≡ false
+      still n w true e = absurd (let z = free n e in omega (arith, z, ap (λ (l : Link). l.birth) (too.waits n), w))
+      still n w false e = e
+
+      left : AreOpen rows marks2 (filter (is_open rows marks2) p.undecided.items)
+      left =
+          open_fewer rows rows marks marks2 p.undecided.items k.undecided (omega (arith, too.each)) (λ n t. t) (λ n u. was n (mark_at marks n).decided refl u)
+          (λ n w.
+          let h = k.undecided.waiting n (subst (λ (l : Link). 0 < l.birth) (too.waits n) w) in
+          (h, (k.undecided.only n h).told, still n w (mark_at marks2 n).decided refl))
 
   pub too_decided : (t : TxnId) → is_listed is_txn (decided_of rows marks2) t ≡ is_listed is_txn (decided_of rows marks ++ ids) t
   too_decided t =

@@ -18,7 +18,7 @@ use Rattle.roc_server_table.specs.declared.marks.Mark.{Mark}
 use Rattle.std.specs.Prelude.{nat_lt}
 use Rattle.roc_server_table.specs.Inner.Changes.{all_ended, KeptLists}
 use Rattle.roc_server_table.specs.Inner.Rows.{row_at, known_of, lists_of, IsWhole}
-use Rattle.roc_server_table.specs.Inner.Marks.{mark_at, AreMarked, EndsAt, MayEnd}
+use Rattle.roc_server_table.specs.Inner.Marks.{mark_at, AreMarked, AreOpen, EndsAt, MayEnd}
 use Rattle.roc_server_table.specs.Inner.Kept.{decided_of, IsKept}
 use Rattle.roc_server_table.proofs.AllEnded.{listed_more}
 use Rattle.roc_server_table.proofs.DecidedIds.{decided_at, decided_listed, decided_live, listed_decided}
@@ -44,8 +44,8 @@ module _ (p q : Parts) (marks marks2 : List Mark) (k : IsKept p marks) (id : Txn
   abbrev numbers : List (TxnId × ℕ)
   numbers = p.numbers.entries
 
-  pub ends_kept : IsKept q marks2
-  ends_kept = record { whole = whole; marked = marked; each = e.each ∙ (k.each ∙ sym e.rows) }
+  pub ends_kept : AreOpen q.rows.items marks2 q.undecided.items → IsKept q marks2
+  ends_kept open_rows = record { whole = whole; marked = marked; each = e.each ∙ (k.each ∙ sym e.rows); undecided = open_rows }
 
   -- what is decided then is not the row that ends
   apart : (n : ℕ) → (mark_at marks2 n).decided ≡ true → ¬ (lookup (is_txn id) numbers ≡ Some n)

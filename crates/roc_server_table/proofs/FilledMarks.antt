@@ -1,14 +1,18 @@
 -- Rows that came get marks
-use Rattle.std.proofs.Common.{◌≡◌, ◌<◌, ℕ, zero, suc, true, List, [], ◌∷◌, ◌++◌, length, take, drop, append-nil, refl, sym, ap, ◌∙◌, subst, arith}
+use Rattle.std.proofs.Common.{◌≡◌, ◌≢◌, ◌<◌, ◌≤◌, ◌⊎◌, inl, inr, ℕ, zero, suc, Bool, true, false, List, [], ◌∷◌, ◌++◌, length, take, drop, append-nil, refl, sym, ap, ◌∙◌, subst, arith}
 use Rattle.std.proofs.lemmas.Bool.{false≢true}
 use Rattle.roc_sequence.proofs.Fronts.{front_whole, no_rest}
+use Rattle.roc_sequence.specs.Lists.{Has}
+use Rattle.roc_server_table.specs.declared.rows.Link.{Link}
 use Rattle.roc_server_table.specs.declared.rows.Row.{Row}
 use Rattle.roc_server_table.specs.declared.rows.Parts.{Parts}
 use Rattle.roc_server_table.specs.declared.marks.Mark.{Mark}
 use Rattle.roc_server_table.specs.Inner.Rows.{row_at, is_told, Grows, IsWhole}
-use Rattle.roc_server_table.specs.Inner.Marks.{no_mark, mark_at, AreMarked, IsLearnt, WaitsOn, Wakes}
+use Rattle.roc_server_table.specs.Inner.Marks.{no_mark, mark_at, AreMarked, AreOpen, HasWaiting, IsLearnt, WaitsOn, Wakes}
 use Rattle.roc_server_table.specs.Inner.Kept.{decided_of, IsFilled, IsKept}
 use Rattle.roc_server_table.proofs.Alive.{row_within}
+use Rattle.roc_server_table.proofs.InQuestion.{told_within}
+use Rattle.roc_server_table.proofs.OpenRows.{grown_told, open_alike, open_more}
 use Rattle.roc_server_table.proofs.KeptMarks.{marks_grow, marks_told}
 use Rattle.roc_server_table.proofs.DecidedIds.{decided_live, decided_same}
 
@@ -35,6 +39,9 @@ marks_alike rows old new same a =
     decided : (n : ℕ) → (mark_at new n).decided ≡ (mark_at old n).decided
     decided n = ap (λ (m : Mark). m.decided) (same n)
 
+pub filled_waiting : (old new : List Mark) (ns : List ℕ) → ((n : ℕ) → mark_at new n ≡ mark_at old n) → HasWaiting old ns → HasWaiting new ns
+filled_waiting old new ns same waiting n h = waiting n (subst (λ (m : Mark). 0 < m.waits.birth) (same n) h)
+
 -- ---- rows came, and maybe one of them got a list
 
 module _ (p q : Parts) (marks filled : List Mark) (k : IsKept p marks) (whole : IsWhole q) (f : IsFilled q.rows.items marks filled) where
@@ -47,12 +54,15 @@ module _ (p q : Parts) (marks filled : List Mark) (k : IsKept p marks) (whole : 
   live : (n : ℕ) → (mark_at marks n).decided ≡ true → 0 < (row_at old n).birth
   live = decided_live p.numbers.entries old p.stamp k.whole marks k.marked
 
-  pub grown_kept : Grows old new p.stamp q.stamp → IsKept q filled
-  grown_kept g =
+  pub grown_kept : Grows old new p.stamp q.stamp → q.undecided.items ≡ p.undecided.items → length old ≤ length new → IsKept q filled
+  grown_kept g same more =
       record {
         whole = whole;
         marked = marks_alike new marks filled f.same (marks_grow p.numbers.entries old new p.stamp q.stamp k.whole g marks k.marked);
         each = f.each;
+        undecided = subst (AreOpen new filled) (sym same)
+            (open_alike old new marks filled p.undecided.items k.undecided (omega (arith, k.each, f.each, more)) (grown_told p.numbers.entries old new p.stamp q.stamp k.whole g)
+            (λ n. ap (λ (m : Mark). m.decided) (f.same n)) (filled_waiting marks filled p.undecided.items f.same k.undecided.waiting));
       }
 
   pub grown_decided : Grows old new p.stamp q.stamp → decided_of new filled ≡ decided_of old marks
@@ -66,8 +76,33 @@ module _ (p q : Parts) (marks filled : List Mark) (k : IsKept p marks) (whole : 
     mid_marked : AreMarked l.mid filled
     mid_marked = marks_alike l.mid marks filled f.same (marks_grow p.numbers.entries old l.mid p.stamp l.stamp k.whole l.grows marks k.marked)
 
-    pub learnt_kept : IsKept q woken
-    learnt_kept = record { whole = whole; marked = marks_told at l.mid new l.told filled woken mid_marked w; each = w.each ∙ f.each }
+    pub learnt_kept : q.undecided.items ≡ p.undecided.items ++ at ∷ [] → length old ≤ length new → IsKept q woken
+    learnt_kept more longer =
+        record {
+          whole = whole;
+          marked = marks_told at l.mid new l.told filled woken mid_marked w;
+          each = w.each ∙ f.each;
+          undecided = subst (AreOpen new woken) (sym more)
+              (open_more l.mid new marks woken p.undecided.items
+              (open_alike old l.mid marks marks p.undecided.items k.undecided (omega arith) (grown_told p.numbers.entries old l.mid p.stamp l.stamp k.whole l.grows) (λ n. refl) k.undecided.waiting)
+              (omega (arith, k.each, f.each, w.each, longer)) at (let b = told_within new at l.told.told in omega (arith, b, f.each, w.each)) l.told.untold l.told.told
+              (same at ∙ fresh (mark_at marks at).decided refl) (λ n d. ap is_told (l.told.others n d)) same waiting);
+        }
+      where
+        same : (n : ℕ) → (mark_at woken n).decided ≡ (mark_at marks n).decided
+        same n = w.decided n ∙ ap (λ (m : Mark). m.decided) (f.same n)
+
+        fresh : (b : Bool) → (mark_at marks at).decided ≡ b → b ≡ false
+        fresh true e =
+            absurd (false≢true (sym l.told.untold ∙ (grown_told p.numbers.entries old l.mid p.stamp l.stamp k.whole l.grows at ∙ k.marked.decided_told at e)))
+        fresh false e = refl
+
+        waiting : HasWaiting woken p.undecided.items
+        waiting n h = go (w.woken n)
+          where
+            go : ((mark_at woken n).waits.birth ≡ 0) ⊎ (((mark_at woken n).waits ≡ (mark_at filled n).waits) × ((mark_at filled n).waits.at ≢ at)) → Has n p.undecided.items
+            go (inl z) = absurd (omega (arith, h, z))
+            go (inr s) = k.undecided.waiting n (subst (λ (m : Mark). 0 < m.waits.birth) (f.same n) (subst (λ (x : Link). 0 < x.birth) s.0 h))
 
     pub learnt_decided : decided_of new woken ≡ decided_of old marks
     learnt_decided =

@@ -1,9 +1,7 @@
 -- The rows in question, and what of them is decided
-use Rattle.std.proofs.Common.{◌≡◌, ◌<◌, ◌≤◌, ◌+◌, ◌&&◌, inl, inr, ℕ, zero, suc, Bool, true, false, not, cond, List, [], ◌∷◌, length, filter, Option, refl, sym, ap, ◌∙◌, subst, arith}
+use Rattle.std.proofs.Common.{◌≡◌, ◌<◌, ◌&&◌, ℕ, zero, suc, Bool, true, false, not, cond, List, [], ◌∷◌, length, filter, Option, refl, sym, ap, ◌∙◌, subst, arith}
 use Rattle.std.proofs.lemmas.Bool.{false≢true}
 use Rattle.std.specs.Prelude.{nat_lt}
-use Rattle.std.specs.List.{range_with_len}
-use Rattle.roc_sequence.specs.Lists.{Has}
 use Rattle.roc_sequence.proofs.Members.{has_filter, from_has_filter}
 use Rattle.roc_sequence.proofs.Holds.{has_all}
 use Rattle.roc_base.specs.declared.id.TxnId.{TxnId}
@@ -14,29 +12,10 @@ use Rattle.roc_server_table.specs.declared.marks.Mark.{Mark}
 use Rattle.roc_server_table.specs.Inner.Rows.{row_at, is_told, links_of, IsTable}
 use Rattle.roc_server_table.specs.Inner.LinksBut.{links_but}
 use Rattle.roc_server_table.specs.Inner.Except.{rows_but, IsExceptLive}
-use Rattle.roc_server_table.specs.Inner.Marks.{mark_at, is_in_question, AreInQuestion, AreNewRowsBut, AreSameDecided, EachOnce, FindsNew, IsOpen}
-use Rattle.roc_server_table.proofs.Alive.{numbers_differ}
+use Rattle.roc_server_table.specs.Inner.Marks.{mark_at, is_in_question, AreInQuestion, AreNewRowsBut, AreOpen, AreSameDecided, EachOnce, FindsNew, IsOpen}
 use Rattle.roc_server_table.proofs.Excepted.{links_of_but, row_at_but, table_but, told_but}
 
--- ---- numbers in a row
-
-range_from : (a n k : ℕ) → Has k (range_with_len a n) → a ≤ k
-range_from a zero k h = absurd h
-range_from a (suc n) k (inl e) = omega (arith, e)
-range_from a (suc n) k (inr h) = let r = range_from (a + 1) n k h in omega (arith, r)
-
-range_below : (a n k : ℕ) → Has k (range_with_len a n) → k < a + n
-range_below a zero k h = absurd h
-range_below a (suc n) k (inl e) = omega (arith, e)
-range_below a (suc n) k (inr h) = let r = range_below (a + 1) n k h in omega (arith, r)
-
-has_range : (a n k : ℕ) → a ≤ k → k < a + n → Has k (range_with_len a n)
-has_range a zero k l h = absurd (omega (arith, l, h))
-has_range a (suc n) k l h = elim (numbers_differ k a) [ inl e ↦ inl e | inr d ↦ inr (has_range (a + 1) n k (omega arith) (omega arith)) ]
-
-once_range : (a n : ℕ) → EachOnce (range_with_len a n)
-once_range a zero = tt
-once_range a (suc n) = (λ h. let r = range_from (a + 1) n a h in absurd (omega (arith, r)), once_range (a + 1) n)
+-- ---- the rows in question
 
 pub once_filter : (p : ℕ → Bool) (ns : List ℕ) → EachOnce ns → EachOnce (filter p ns)
 once_filter p [] o = tt
@@ -45,8 +24,6 @@ once_filter p (n ∷ ns) o = go (p n) (once_filter p ns o.1)
     go : (b : Bool) → EachOnce (filter p ns) → EachOnce (cond b (n ∷ filter p ns) (filter p ns))
     go true i = (λ h. o.0 (from_has_filter p n ns h).0, i)
     go false i = i
-
--- ---- the rows in question
 
 -- what has a list has a number
 pub told_within : (rows : List Row) (n : ℕ) → is_told (row_at rows n) ≡ true → n < length rows
@@ -65,25 +42,21 @@ all_test d w t e f g = ap (λ b. not b && (not w && t)) e ∙ (ap (λ b. not b &
 none_below : (k : ℕ) → k ≡ 0 → nat_lt 0 k ≡ false
 none_below k e = ap (nat_lt 0) e
 
-pub are_in_question : (except : Option ℕ) (rows : List Row) (marks : List Mark) (ns : List ℕ) → length marks ≡ length rows → ns ≡ filter (is_in_question rows marks) (range_with_len 0 (length marks))
-    → AreInQuestion (rows_but except rows) marks ns
-are_in_question except rows marks ns each is =
+pub are_in_question : (except : Option ℕ) (rows : List Row) (first marks : List Mark) (open_ns ns : List ℕ) → AreOpen rows first open_ns → AreSameDecided first marks → length marks ≡ length first
+    → ns ≡ filter (is_in_question rows marks) open_ns → AreInQuestion (rows_but except rows) marks ns
+are_in_question except rows first marks open_ns ns o same each is =
     subst (AreInQuestion (rows_but except rows) marks) (sym is)
     (record {
-      open_rows = has_all (IsOpen (rows_but except rows) marks) (filter (is_in_question rows marks) each_row) (λ n h.
-          let w = from_has_filter (is_in_question rows marks) n each_row h in
+      open_rows = has_all (IsOpen (rows_but except rows) marks) (filter (is_in_question rows marks) open_ns) (λ n h.
+          let w = from_has_filter (is_in_question rows marks) n open_ns h in
           let q = test_all (mark_at marks n).decided (nat_lt 0 (mark_at marks n).waits.birth) (is_told (row_at rows n)) w.1 in
-          record { within = omega (arith, range_below 0 (length marks) n w.0); told = told_but except rows n ∙ q.1; undecided = q.0 });
+          record { within = omega (arith, (o.only n w.0).within, each); told = told_but except rows n ∙ q.1; undecided = q.0 });
       all = λ n told undecided free.
           let was : is_told (row_at rows n) ≡ true = sym (told_but except rows n) ∙ told in
-          let below = told_within rows n was in
-          has_filter (is_in_question rows marks) n each_row (has_range 0 (length marks) n (omega arith) (omega (arith, below, each)))
+          has_filter (is_in_question rows marks) n open_ns (o.all n was (sym (same n) ∙ undecided))
           (all_test (mark_at marks n).decided (nat_lt 0 (mark_at marks n).waits.birth) (is_told (row_at rows n)) undecided (none_below (mark_at marks n).waits.birth free) was);
-      once = once_filter (is_in_question rows marks) each_row (once_range 0 (length marks));
+      once = once_filter (is_in_question rows marks) open_ns o.once;
     })
-  where
-    each_row : List ℕ
-    each_row = range_with_len 0 (length marks)
 
 -- ---- what was found, of all rows and links
 

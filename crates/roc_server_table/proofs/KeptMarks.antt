@@ -20,7 +20,7 @@ born_link rows stamp (d ∷ ds) [] a l h = absurd h
 born_link rows stamp (d ∷ ds) (x ∷ xs) a l (inl e) = subst (λ (y : Link). y.birth < stamp) (sym e) a.0.born
 born_link rows stamp (d ∷ ds) (x ∷ xs) a l (inr h) = born_link rows stamp ds xs a.1 l h
 
-told_turn : (r : Row) → is_told r ≡ true → 0 < r.turn
+pub told_turn : (r : Row) → is_told r ≡ true → 0 < r.turn
 told_turn r h = grind (arith, nat_tests)
 
 untold_turn : (r : Row) → r.turn ≡ 0 → is_told r ≡ false

@@ -14,6 +14,7 @@ pub mod Walked
 pub mod Excepted
 pub mod ExceptedMarks
 pub mod InQuestion
+pub mod OpenRows
 pub mod DecidedRows
 pub mod KeptMarks
 pub mod Settled

@@ -1,5 +1,5 @@
 -- The keys of a set, by id rising, are its keys
-use Rattle.std.proofs.Common.{◌≡◌, ◌&&◌, Bool, true, false, not, filter, if◌then◌else◌, List, [], ◌∷◌, ◌++◌, ◌⊎◌, refl, sym, ap, subst, ◌∙◌, inl, inr}
+use Rattle.std.proofs.Common.{◌≡◌, ◌&&◌, Bool, true, false, not, if◌then◌else◌, List, [], ◌∷◌, ◌++◌, ◌⊎◌, refl, sym, ap, subst, ◌∙◌, inl, inr}
 use Rattle.std.proofs.lemmas.Bool.{and_parts, false≢true, not-true, not_from_false}
 use Rattle.std.specs.List.Sorted.{IsStrictlySortedBy}
 use Rattle.std.specs.declared.cmp.Ordering.TheVariants.{Less}
@@ -7,7 +7,6 @@ use Rattle.roc_sequence.proofs.Holds.{has_all}
 use Rattle.roc_sequence.proofs.Rising.{less_from_test}
 use Rattle.roc_sequence.proofs.Places.{listed_head, listed_tail, listed_cases}
 use Rattle.roc_sequence.specs.Places.{IsListed, is_listed}
-use Rattle.roc_sequence.proofs.Filtered.{from_listed_filter, listed_filter}
 use Rattle.roc_sequence.proofs.Places.{listed_test, unlisted_test, listed_true, listed_false}
 use Rattle.roc_sequence.proofs.Appended.{listed_front, listed_behind, listed_either}
 use Rattle.roc_base.specs.declared.id.TxnId.{TxnId}

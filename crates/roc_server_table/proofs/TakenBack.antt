@@ -15,18 +15,25 @@ use Rattle.roc_server_table.specs.declared.rows.Row.{Row}
 use Rattle.roc_server_table.specs.declared.rows.Parts.{Parts}
 use Rattle.roc_server_table.specs.declared.marks.Mark.{Mark}
 use Rattle.roc_server_table.specs.Inner.Changes.{all_untold, untold, KeptLists}
-use Rattle.roc_server_table.specs.Inner.Rows.{is_told, IsWhole}
-use Rattle.roc_server_table.specs.Inner.Marks.{mark_at, AreMarked, IsTakenBack, WakesAll}
+use Rattle.roc_server_table.specs.Inner.Rows.{row_at, is_told, IsWhole}
+use Rattle.roc_server_table.specs.Inner.Marks.{mark_at, is_open, AreMarked, AreOpen, IsTakenBack, WakesAll}
 use Rattle.roc_server_table.specs.Inner.Kept.{decided_of, IsKept}
 use Rattle.roc_server_table.proofs.AllEnded.{filter_both}
 use Rattle.roc_server_table.proofs.ExceptedMarks.{marks_awake}
+use Rattle.roc_server_table.proofs.OpenRows.{open_awake, open_back}
 use Rattle.roc_server_table.proofs.DecidedIds.{decided_at, decided_within, decided_same}
 
 -- ---- no row waits
 
 module _ (p : Parts) (marks new : List Mark) (k : IsKept p marks) (w : WakesAll marks new) where
   pub awake_kept : IsKept p new
-  awake_kept = record { whole = k.whole; marked = marks_awake p.rows.items marks new k.marked w; each = w.each ∙ k.each }
+  awake_kept =
+      record {
+        whole = k.whole;
+        marked = marks_awake p.rows.items marks new k.marked w;
+        each = w.each ∙ k.each;
+        undecided = open_awake p.rows.items p.rows.items marks new p.undecided.items k.undecided w (λ n. refl);
+      }
 
   pub awake_decided : decided_of p.rows.items new ≡ decided_of p.rows.items marks
   awake_decided =
@@ -48,8 +55,8 @@ module _ (p q : Parts) (marks : List Mark) (k : IsKept p marks) (awake : (n : �
       let own : (mark_at marks n).decided ≡ false = sym (decided_at p.numbers.entries old p.stamp k.whole marks k.marked id n here) ∙ undecided in
       false≢true (sym own ∙ (ap (λ j. (mark_at marks j).decided) (sym e) ∙ d))
 
-  pub back_kept : IsKept q marks
-  back_kept =
+  pub back_kept : q.undecided.items ≡ filter (is_open new marks) p.undecided.items → IsKept q marks
+  back_kept left =
       record {
         whole = whole;
         marked = record {
@@ -59,7 +66,11 @@ module _ (p q : Parts) (marks : List Mark) (k : IsKept p marks) (awake : (n : �
           waits = λ m w. absurd (let z = awake m in omega (arith, z, w));
         };
         each = k.each ∙ sym each;
+        undecided = subst (AreOpen new marks) (sym left) (open_back old new marks p.undecided.items k.undecided awake told);
       }
+    where
+      told : (m : ℕ) → is_told (row_at new m) ≡ true → is_told (row_at old m) ≡ true
+      told m t = ap is_told (sym (b.others m (λ e. false≢true (sym b.own ∙ (ap (λ j. is_told (row_at new j)) (sym e) ∙ t))))) ∙ t
 
   pub back_decided : decided_of new marks ≡ decided_of old marks
   back_decided =
@@ -74,13 +85,19 @@ module _ (p q : Parts) (marks : List Mark) (k : IsKept p marks) (awake : (n : �
     (whole : IsWhole q) (each : length q.rows.items ≡ length p.rows.items)
     (taken : (n : ℕ) → lookup (is_txn id) p.numbers.entries ≡ Some n → IsTakenBack n p.rows.items q.rows.items)
     (same : lookup (is_txn id) p.numbers.entries ≡ None → q.rows.items ≡ p.rows.items) where
-  pub untold_kept : IsKept q marks
-  untold_kept = go (lookup (is_txn id) p.numbers.entries) refl
+  pub untold_kept : q.undecided.items ≡ filter (is_open q.rows.items marks) p.undecided.items → IsKept q marks
+  untold_kept left = go (lookup (is_txn id) p.numbers.entries) refl
     where
       go : (o : Option ℕ) → lookup (is_txn id) p.numbers.entries ≡ o → IsKept q marks
       go None e =
-          record { whole = whole; marked = subst (λ (rs : List Row). AreMarked rs marks) (sym (same e)) k.marked; each = k.each ∙ sym each }
-      go (Some n) e = back_kept p q marks k awake id n e undecided whole (taken n e) each
+          record {
+            whole = whole;
+            marked = subst (λ (rs : List Row). AreMarked rs marks) (sym (same e)) k.marked;
+            each = k.each ∙ sym each;
+            undecided = subst (AreOpen q.rows.items marks) (sym left)
+                (open_back p.rows.items q.rows.items marks p.undecided.items k.undecided awake (λ m t. ap (λ (rs : List Row). is_told (row_at rs m)) (sym (same e)) ∙ t));
+          }
+      go (Some n) e = back_kept p q marks k awake id n e undecided whole (taken n e) each left
 
   pub untold_decided : decided_of q.rows.items marks ≡ decided_of p.rows.items marks
   untold_decided = go (lookup (is_txn id) p.numbers.entries) refl

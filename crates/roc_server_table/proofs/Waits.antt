@@ -12,7 +12,7 @@ use Rattle.roc_server_table.specs.declared.rows.Row.{Row}
 use Rattle.roc_server_table.specs.declared.marks.Mark.{Mark}
 use Rattle.roc_server_table.specs.Inner.Rows.{row_at, is_alive, is_told}
 use Rattle.roc_server_table.specs.Inner.Marks.{no_mark, mark_at, at_end, by_link, AreMarked, AreSameDecided, Holds, HoldsAll, HoldsSome, IsFreeRow, IsHeldBy}
-use Rattle.roc_server_table.specs.Inner.Marks.{IsHeldThrough, IsOpen, IsSettled, KeepsWaits, WaitsOn, count_free}
+use Rattle.roc_server_table.specs.Inner.Marks.{IsHeldThrough, IsOpen, IsSettled, KeepsWaits, WaitsNewly, WaitsOn, count_free}
 use Rattle.roc_server_table.proofs.Alive.{numbers_differ, alive_live}
 
 -- ---- one row waits
@@ -74,6 +74,10 @@ module _ (rows : List Row) (marks : List Mark) (n : ℕ) (m : Mark) (a : AreMark
         marked = marked_more;
         same = decided_stays;
         each = length-set marks n m;
+        newly = λ k h. elim (numbers_differ k n) [
+          | inl e ↦ inr (ap (λ j. is_told (row_at rows j)) e ∙ o.told, ap (λ j. (mark_at marks j).decided) e ∙ o.undecided)
+          | inr d ↦ inl (subst (λ (x : Mark). 0 < x.waits.birth) (mark_other k d) h)
+        ];
         keeps = λ k h. elim (numbers_differ k n) [
           | inl e ↦ absurd (let q : (mark_at marks k).waits.birth ≡ 0 = ap (λ j. (mark_at marks j).waits.birth) e ∙ z in omega (arith, q, h))
           | inr d ↦ subst (λ (x : Mark). 0 < x.waits.birth) (sym (mark_other k d)) h
@@ -87,7 +91,7 @@ module _ (rows : List Row) (marks : List Mark) (n : ℕ) (m : Mark) (a : AreMark
 
 pub holds_none : (rows : List Row) (marks : List Mark) (n : ℕ) → AreMarked rows marks → IsSettled rows marks n → Holds rows marks marks n false
 holds_none rows marks n a s =
-    record { marked = a; same = λ k. refl; each = refl; keeps = λ k h. h; none = λ e. refl; settled = λ e. s; fewer = λ e. absurd (false≢true e) }
+    record { marked = a; same = λ k. refl; each = refl; keeps = λ k h. h; newly = λ k p. inl p; none = λ e. refl; settled = λ e. s; fewer = λ e. absurd (false≢true e) }
 
 -- ---- what a link leads to
 
@@ -155,9 +159,12 @@ open_stays rows old new n same each o = record { within = omega (arith, o.within
 pub all_open_stay : (rows : List Row) (old new : List Mark) (ns : List ℕ) → AreSameDecided old new → length new ≡ length old → AllByRecursion (IsOpen rows old) ns → AllByRecursion (IsOpen rows new) ns
 all_open_stay rows old new ns same each a = all_weaker (IsOpen rows old) (IsOpen rows new) (λ n o. open_stays rows old new n same each o) ns a
 
+newly_then : (rows : List Row) (first old new : List Mark) → AreSameDecided first old → WaitsNewly rows first old → WaitsNewly rows old new → WaitsNewly rows first new
+newly_then rows first old new same f g k p = elim (g k p) [ inl q ↦ f k q | inr w ↦ inr (w.0, sym (same k) ∙ w.1) ]
+
 pub some_none : (rows : List Row) (marks : List Mark) → AreMarked rows marks → HoldsSome rows marks marks [] false
 some_none rows marks a =
-    record { marked = a; same = λ n. refl; each = refl; keeps = λ n h. h; none = λ e. refl; settled = λ e. tt; no_more = omega arith; fewer = λ e. absurd (false≢true e) }
+    record { marked = a; same = λ n. refl; each = refl; keeps = λ n h. h; newly = λ n p. inl p; none = λ e. refl; settled = λ e. tt; no_more = omega arith; fewer = λ e. absurd (false≢true e) }
 
 module _ (rows : List Row) (first old new : List Mark) (ns : List ℕ) (i n : ℕ) (h : Holds rows old new n true) where
   pub some_more : (changed : Bool) → HoldsSome rows first old (take i ns) changed → HoldsSome rows first new (take (i + 1) ns) true
@@ -167,6 +174,7 @@ module _ (rows : List Row) (first old new : List Mark) (ns : List ℕ) (i n : �
         same = λ k. h.same k ∙ s.same k;
         each = h.each ∙ s.each;
         keeps = λ k p. h.keeps k (s.keeps k p);
+        newly = λ k p. newly_then rows first old new s.same s.newly h.newly k p;
         none = λ e. absurd (false≢true (sym e));
         settled = λ e. absurd (false≢true (sym e));
         no_more = omega (arith, h.fewer refl, s.no_more);
@@ -181,6 +189,7 @@ some_same rows first old new ns i n changed below is h s =
       same = λ k. h.same k ∙ s.same k;
       each = h.each ∙ s.each;
       keeps = λ k p. h.keeps k (s.keeps k p);
+      newly = λ k p. newly_then rows first old new s.same s.newly h.newly k p;
       none = λ e. h.none refl ∙ s.none e;
       settled = λ e.
           subst (AllByRecursion (IsSettled rows first)) (sym (take_more ns i n below ∙ ap (λ x. take i ns ++ x ∷ []) (sym is)))
@@ -202,10 +211,8 @@ pub record IsTurning (rows : List Row) (first marks : List Mark) (ns : List ℕ)
   pub same : AreSameDecided first marks
   pub each : length marks ≡ length first
   pub keeps : KeepsWaits first marks
+  pub newly : WaitsNewly rows first marks
   pub settled : changed ≡ false → AllByRecursion (IsSettled rows marks) ns
-
-pub turning_first : (rows : List Row) (marks : List Mark) (ns : List ℕ) → AreMarked rows marks → IsTurning rows marks marks ns true
-turning_first rows marks ns a = record { marked = a; same = λ k. refl; each = refl; keeps = λ k h. h; settled = λ e. absurd (false≢true (sym e)) }
 
 pub turning_more : (rows : List Row) (first old next : List Mark) (ns : List ℕ) (before changed : Bool) → IsTurning rows first old ns before → HoldsSome rows old next ns changed
     → IsTurning rows first next ns changed
@@ -215,6 +222,7 @@ turning_more rows first old next ns before changed t s =
       same = λ k. s.same k ∙ t.same k;
       each = s.each ∙ t.each;
       keeps = λ k h. s.keeps k (t.keeps k h);
+      newly = λ k p. newly_then rows first old next t.same t.newly s.newly k p;
       settled = λ e. subst (λ ms. AllByRecursion (IsSettled rows ms) ns) (sym (s.none e)) (s.settled e);
     }
 
@@ -222,9 +230,5 @@ turning_more rows first old next ns before changed t s =
 abbrev pub to_look : List Mark → Bool → ℕ
 to_look marks changed = count_free marks + cond changed 1 0
 
-pub looks_less : (rows : List Row) (old new : List Mark) (ns : List ℕ) (changed : Bool) → HoldsSome rows old new ns changed → to_look new changed < to_look old true
-looks_less rows old new ns true s = omega (arith, s.fewer refl)
-looks_less rows old new ns false s = omega (arith, s.no_more)
-
 pub all_held : (rows : List Row) (first marks : List Mark) (ns : List ℕ) → IsTurning rows first marks ns false → HoldsAll rows first marks ns
-all_held rows first marks ns t = record { marked = t.marked; same = t.same; each = t.each; keeps = t.keeps; settled = t.settled refl }
+all_held rows first marks ns t = record { marked = t.marked; same = t.same; each = t.each; keeps = t.keeps; newly = t.newly; settled = t.settled refl }

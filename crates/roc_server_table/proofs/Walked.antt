@@ -1,80 +1,103 @@
 -- Marks that are changed one after another
-use Rattle.std.proofs.Common.{◌≡◌, ◌≢◌, ◌<◌, ◌≤◌, ◌+◌, ◌⊎◌, inl, inr, ℕ, Bool, true, false, List, length, set, refl, sym, ◌∙◌, subst, arith}
+use Rattle.std.proofs.Common.{◌≡◌, ◌≢◌, ◌<◌, ◌≤◌, ◌+◌, ◌⊎◌, ◌++◌, ◌∷◌, [], inl, inr, ℕ, Bool, true, false, List, length, set, take, get_or, refl, sym, ap, ◌∙◌, subst, arith}
 use Rattle.std.proofs.lemmas.Bool.Decides.{nat_tests}
 use Rattle.std.proofs.lemmas.List.{get_or-set_same, get_or-set_other, get_or_past, length-set}
 use Rattle.std.specs.Prelude.{nat_lt}
+use Rattle.roc_sequence.specs.Lists.{Has}
+use Rattle.roc_sequence.proofs.Fronts.{front_more}
+use Rattle.roc_sequence.proofs.Members.{has_append, has_one}
+use Rattle.roc_server_table.specs.declared.rows.Link.{Link}
 use Rattle.roc_server_table.specs.declared.rows.Row.{Row}
 use Rattle.roc_server_table.specs.declared.marks.Mark.{Mark}
 use Rattle.roc_server_table.specs.Inner.Rows.{row_at, is_told}
-use Rattle.roc_server_table.specs.Inner.Marks.{no_mark, mark_at, Wakes, WakesAll, WakesFor}
+use Rattle.roc_server_table.specs.Inner.Marks.{no_mark, mark_at, HasWaiting, IsAwake, IsChangedAt, IsWokenAt, Wakes, WakesAll, WakesFor}
 use Rattle.roc_server_table.proofs.Alive.{numbers_differ}
 
-is_below : (k i : ℕ) → nat_lt k i ≡ true → k < i
-is_below k i e = grind (arith, nat_tests)
-
-not_below : (k i : ℕ) → nat_lt k i ≡ false → i ≤ k
-not_below k i e = grind (arith, nat_tests)
-
--- those before this place
-pub record IsWalked (R : Mark → Mark → Type 0) (old new : List Mark) (i : ℕ) : Type 0 where
+-- those at these numbers, and no others but in the same way
+pub record IsVisited (R : Mark → Mark → Type 0) (old new : List Mark) (ns : List ℕ) : Type 0 where
   pub each : length new ≡ length old
-  pub done : (k : ℕ) → k < i → R (mark_at old k) (mark_at new k)
-  pub left : (k : ℕ) → i ≤ k → mark_at new k ≡ mark_at old k
+  pub done : (k : ℕ) → Has k ns → R (mark_at old k) (mark_at new k)
+  pub left : (k : ℕ) → (mark_at new k ≡ mark_at old k) ⊎ R (mark_at old k) (mark_at new k)
 
 module _ (R : Mark → Mark → Type 0) where
-  pub walked_none : (marks : List Mark) → IsWalked R marks marks 0
-  walked_none marks = record { each = refl; done = λ k h. absurd (omega arith); left = λ k h. refl }
+  pub visited_none : (marks : List Mark) → IsVisited R marks marks []
+  visited_none marks = record { each = refl; done = λ k h. absurd h; left = λ k. inl refl }
 
-  pub walked_more : (old now next : List Mark) (i : ℕ) (m : Mark) → IsWalked R old now i → i < length now → next ≡ set now i m → R (mark_at now i) m → IsWalked R old next (i + 1)
-  walked_more old now next i m w below is h =
-      subst (λ ms. IsWalked R old ms (i + 1)) (sym is)
-      (record {
-        each = length-set now i m ∙ w.each;
-        done = λ k b. elim (numbers_differ k i) [
-          | inl e ↦
-              subst (λ j. R (mark_at old j) (mark_at (set now i m) j)) (sym e)
-              (subst (R (mark_at old i)) (sym (get_or-set_same now i m no_mark below)) (subst (λ x. R x m) (w.left i (omega arith)) h))
-          | inr d ↦ subst (R (mark_at old k)) (sym (get_or-set_other now i k m no_mark d)) (w.done k (omega arith))
-        ];
-        left = λ k b. get_or-set_other now i k m no_mark (λ e. (let z : i + 1 ≤ i = omega arith in absurd (omega arith))) ∙ w.left k (omega arith);
-      })
+  module _ (then : (x y z : Mark) → R x y → R y z → R x z) (old now next : List Mark) (seen : List ℕ) (at : ℕ) (v : IsVisited R old now seen) (c : IsChangedAt R at now next) where
+    later : (k : ℕ) → R (mark_at old k) (mark_at now k) → R (mark_at old k) (mark_at next k)
+    later k r = elim (numbers_differ k at) [
+      | inl e ↦ then (mark_at old k) (mark_at now k) (mark_at next k) r (subst (λ j. R (mark_at now j) (mark_at next j)) (sym e) c.own)
+      | inr d ↦ subst (R (mark_at old k)) (sym (c.others k d)) r
+    ]
 
-  pub walked_all : (old new : List Mark) (i : ℕ) → R no_mark no_mark → IsWalked R old new i → length new ≤ i → (k : ℕ) → R (mark_at old k) (mark_at new k)
-  walked_all old new i none w all k = go (nat_lt k i) refl
+    here : R (mark_at old at) (mark_at next at)
+    here = elim (v.left at) [ inl e ↦ subst (λ x. R x (mark_at next at)) e c.own | inr r ↦ then (mark_at old at) (mark_at now at) (mark_at next at) r c.own ]
+
+    visited_one : IsVisited R old next (seen ++ at ∷ [])
+    visited_one =
+        record {
+          each = c.each ∙ v.each;
+          done = λ k h. elim (has_append k seen (at ∷ []) h) [
+            | inl d ↦ later k (v.done k d)
+            | inr d ↦ subst (λ j. R (mark_at old j) (mark_at next j)) (sym (has_one k at d)) here
+          ];
+          left = λ k. elim (numbers_differ k at) [
+            | inl e ↦ inr (subst (λ j. R (mark_at old j) (mark_at next j)) (sym e) here)
+            | inr d ↦ elim (v.left k) [ inl e ↦ inl (c.others k d ∙ e) | inr r ↦ inr (later k r) ]
+          ];
+        }
+
+  pub visited_more : ((x y z : Mark) → R x y → R y z → R x z) → (old now next : List Mark) (ns : List ℕ) (i at : ℕ) → i < length ns → at ≡ get_or ns i at → IsVisited R old now (take i ns)
+      → IsChangedAt R at now next → IsVisited R old next (take (i + 1) ns)
+  visited_more then old now next ns i at within is v c = subst (IsVisited R old next) (front_more ns i at within is) (visited_one then old now next (take i ns) at v c)
+
+  pub visited_all : ((x : Mark) → x.waits.birth ≡ 0 → R x x) → (old new : List Mark) (ns : List ℕ) (i : ℕ) → HasWaiting old ns → IsVisited R old new (take i ns) → take i ns ≡ ns
+      → (k : ℕ) → R (mark_at old k) (mark_at new k)
+  visited_all still old new ns i waiting v all k = go (nat_lt 0 (mark_at old k).waits.birth) refl
     where
-      go : (b : Bool) → nat_lt k i ≡ b → R (mark_at old k) (mark_at new k)
-      go true e = w.done k (is_below k i e)
+      go : (b : Bool) → nat_lt 0 (mark_at old k).waits.birth ≡ b → R (mark_at old k) (mark_at new k)
+      go true e =
+          let p : 0 < (mark_at old k).waits.birth = grind (arith, nat_tests) in
+          v.done k (subst (Has k) (sym all) (waiting k p))
       go false e =
-          let h : i ≤ k = not_below k i e in
-          let now : mark_at new k ≡ no_mark = get_or_past new k no_mark (omega arith) in
-          let was : mark_at old k ≡ no_mark = sym (w.left k h) ∙ now in
-          subst (λ x. R x (mark_at new k)) (sym was) (subst (R no_mark) (sym now) none)
+          let z : (mark_at old k).waits.birth ≡ 0 = grind (arith, nat_tests) in
+          elim (v.left k) [ inl same ↦ subst (R (mark_at old k)) (sym same) (still (mark_at old k) z) | inr r ↦ r ]
+
+-- a place of the list, or none
+pub changed_set : (R : Mark → Mark → Type 0) (marks : List Mark) (n : ℕ) (m : Mark) → n < length marks → R (mark_at marks n) m → IsChangedAt R n marks (set marks n m)
+changed_set R marks n m below r =
+    record { each = length-set marks n m; own = subst (R (mark_at marks n)) (sym (get_or-set_same marks n m no_mark below)) r; others = λ k d. get_or-set_other marks n k m no_mark d }
+
+pub changed_none : (R : Mark → Mark → Type 0) (marks : List Mark) (n : ℕ) → length marks ≤ n → R no_mark no_mark → IsChangedAt R n marks marks
+changed_none R marks n past r =
+    let none : mark_at marks n ≡ no_mark = get_or_past marks n no_mark past in
+    record { each = refl; own = subst (λ x. R x x) (sym none) r; others = λ k d. refl }
 
 -- ---- those that wait at a row wait no longer
 
-abbrev pub IsWokenAt : (n : ℕ) → (old new : Mark) → Type 0
-IsWokenAt n old new = (new.decided ≡ old.decided) × ((new.waits.birth ≡ 0) ⊎ ((new.waits ≡ old.waits) × (old.waits.at ≢ n)))
+pub woken_then : (n : ℕ) (x y z : Mark) → IsWokenAt n x y → IsWokenAt n y z → IsWokenAt n x z
+woken_then n x y z f g = (g.0 ∙ f.0, go g.1 f.1)
+  where
+    go : (z.waits.birth ≡ 0) ⊎ ((z.waits ≡ y.waits) × (y.waits.at ≢ n)) → (y.waits.birth ≡ 0) ⊎ ((y.waits ≡ x.waits) × (x.waits.at ≢ n))
+        → (z.waits.birth ≡ 0) ⊎ ((z.waits ≡ x.waits) × (x.waits.at ≢ n))
+    go (inl e) q = inl e
+    go (inr s) (inl e) = inl (ap (λ (l : Link). l.birth) s.0 ∙ e)
+    go (inr s) (inr t) = inr (s.0 ∙ t.0, t.1)
 
-pub wakes_all : (n : ℕ) (old new : List Mark) (i : ℕ) → IsWalked (IsWokenAt n) old new i → length new ≤ i → Wakes n old new
-wakes_all n old new i w all =
-    record {
-      each = w.each;
-      decided = λ k. (walked_all (IsWokenAt n) old new i (refl, inl refl) w all k).0;
-      woken = λ k. (walked_all (IsWokenAt n) old new i (refl, inl refl) w all k).1;
-    }
+pub wakes_all : (n : ℕ) (old new : List Mark) (ns : List ℕ) (i : ℕ) → HasWaiting old ns → IsVisited (IsWokenAt n) old new (take i ns) → take i ns ≡ ns → Wakes n old new
+wakes_all n old new ns i waiting v all =
+    let each = visited_all (IsWokenAt n) (λ x z. (refl, inl z)) old new ns i waiting v all in
+    record { each = v.each; decided = λ k. (each k).0; woken = λ k. (each k).1 }
 
 -- ---- none waits any longer
 
-abbrev pub IsAwake : (old new : Mark) → Type 0
-IsAwake old new = (new.decided ≡ old.decided) × (new.waits.birth ≡ 0)
+pub awake_then : (x y z : Mark) → IsAwake x y → IsAwake y z → IsAwake x z
+awake_then x y z f g = (g.0 ∙ f.0, g.1)
 
-pub all_awake : (old new : List Mark) (i : ℕ) → IsWalked IsAwake old new i → length new ≤ i → WakesAll old new
-all_awake old new i w all =
-    record {
-      each = w.each;
-      same = λ k. (walked_all IsAwake old new i (refl, refl) w all k).0;
-      awake = λ k. (walked_all IsAwake old new i (refl, refl) w all k).1;
-    }
+pub all_awake : (old new : List Mark) (ns : List ℕ) (i : ℕ) → HasWaiting old ns → IsVisited IsAwake old new (take i ns) → take i ns ≡ ns → WakesAll old new
+all_awake old new ns i waiting v all =
+    let each = visited_all IsAwake (λ x z. (refl, z)) old new ns i waiting v all in
+    record { each = v.each; same = λ k. (each k).0; awake = λ k. (each k).1 }
 
 -- ---- as the row has a list or none
 

@@ -14,13 +14,13 @@ ghost use Rattle.roc_step.specs.Links.{without_links};
 ghost use Rattle.roc_step.specs.New.{AreAllNew};
 ghost use Rattle.roc_server_table.specs.Inner.Changes.{all_ended, all_untold, ended, untold, with_list};
 ghost use Rattle.roc_server_table.specs.Inner.Rows.{known_of, links_of, lists_of, Grows};
-ghost use Rattle.roc_server_table.specs.Inner.Marks.{no_mark, mark_at, IsLearnt, IsOut, IsTakenBack};
+ghost use Rattle.roc_server_table.specs.Inner.Marks.{no_mark, mark_at, HasWaiting, IsLearnt, IsOut, IsTakenBack, Wakes};
 ghost use Rattle.roc_server_table.specs.Inner.Leading.{AreKept};
 ghost use Rattle.roc_server_table.specs.Inner.Kept.{decided_of, table_of, AreDecidedToo, IsDecidedAt, IsFilled, IsKept};
 
 use crate::leading::note_row;
 use crate::marking::{end_marked, settle_at};
-use crate::marks::{Mark, mark_of, no_mark, wake, wake_all};
+use crate::marks::{Mark, keep_open, mark_of, no_mark, wake, wake_all};
 use crate::rows::{Parts, Row, learn, number_of, untell};
 use roc_base::{Edge, Edges, NoMemory, TxnId};
 use roc_depgraph::KnownList;
@@ -106,11 +106,11 @@ fn learn_marked(
     ensures decided { decided_of parts.new.rows.items marks.new.items ≡ decided_of parts.old.rows.items marks.old.items }
 {
     let edges = edges.clone()?;
-    reserve(marks, edges.as_slice())?;
+    reserve(marks, &mut parts.undecided, edges.as_slice())?;
     match learn(parts, id, edges, done) {
         Ok(at) => {
             fill(marks, &parts.rows);
-            wake(marks, at);
+            open_row(marks, &mut parts.undecided, at);
             Ok(at)
         }
         Err(fault) => {
@@ -120,13 +120,31 @@ fn learn_marked(
     }
 }
 
-// Takes the room for marks of all rows that may come with a list: its own, and one for each entry.
-fn reserve(marks: &mut Vec<Mark>, edges: &[Edge]) -> Result<(), NoMemory>
+// Takes the room for marks of all rows that may come with a list (its own, and one for each entry), and for one more undecided row.
+fn reserve(
+    marks: &mut Vec<Mark>,
+    undecided: &mut Vec<usize>,
+    edges: &[Edge],
+) -> Result<(), NoMemory>
     ensures items { marks.new.items ≡ marks.old.items }
+    ensures undecided { undecided.new.items ≡ undecided.old.items }
     ensures ok { OnOk result (length marks.new.items + length edges.now + 1 ≤ vec_capacity marks.new) }
+    ensures room { OnOk result (vec_len undecided.new < vec_capacity undecided.new) }
 {
+    undecided.reserve(1)?;
     marks.reserve(edges.len() + 1)?;
     Ok(())
+}
+
+// A row got a list: it is undecided, and what waited at it is in question.
+fn open_row(marks: &mut [Mark], undecided: &mut Vec<usize>, at: usize)
+    requires room { vec_len undecided.old < vec_capacity undecided.old }
+    requires waiting { HasWaiting marks.old undecided.old.items }
+    ensures undecided { undecided.new.items ≡ undecided.old.items ++ at ∷ [] }
+    ensures wakes { Wakes at marks.old marks.new }
+{
+    wake(marks, undecided.as_slice(), at);
+    undecided.push(at).unwrap();
 }
 
 // Rows that came get marks, where there is room.
@@ -164,7 +182,7 @@ pub(crate) fn unlearn_all(
     ensures decided { decided_of parts.new.rows.items marks.new ≡ decided_of parts.old.rows.items marks.old }
 {
     // What waited may have led over one of these lists.
-    wake_all(marks);
+    wake_all(marks, &parts.undecided);
     untell_all(parts, marks, bits, news);
 }
 
@@ -209,7 +227,7 @@ fn unlearn_one(parts: &mut Parts, marks: &mut [Mark], id: TxnId)
     ensures decided { decided_of parts.new.rows.items marks.new ≡ decided_of parts.old.rows.items marks.old }
     ensures taken { (n : ℕ) → lookup (is_txn id) parts.old.numbers.entries ≡ Some n → IsTakenBack n parts.old.rows.items parts.new.rows.items }
 {
-    wake_all(marks);
+    wake_all(marks, &parts.undecided);
     untell_one(parts, marks, id);
 }
 
@@ -224,6 +242,7 @@ fn untell_one(parts: &mut Parts, marks: &[Mark], id: TxnId)
     ensures same { lookup (is_txn id) parts.old.numbers.entries ≡ None → parts.new.rows.items ≡ parts.old.rows.items }
 {
     untell(parts, id);
+    keep_open(&mut parts.undecided, &parts.rows, marks);
 }
 
 // ---- what is decided
@@ -240,13 +259,15 @@ pub(crate) fn is_decided(parts: &Parts, marks: &[Mark], id: TxnId) -> bool
 }
 
 // Marks all transactions as decided that are so and were not marked. Takes no memory.
-pub(crate) fn decide_all(parts: &Parts, marks: &mut [Mark], ids: &[TxnId])
-    requires kept { IsKept parts.now marks.old }
-    requires new { AreAllNew (IsListed is_txn (decided_of parts.now.rows.items marks.old)) (links_of parts.now.rows.items) ids.now }
-    ensures kept { IsKept parts.now marks.new }
-    ensures decided { (t : Id) → is_listed is_txn (decided_of parts.now.rows.items marks.new) t ≡ is_listed is_txn (decided_of parts.now.rows.items marks.old ++ ids.now) t }
+pub(crate) fn decide_all(parts: &mut Parts, marks: &mut [Mark], ids: &[TxnId])
+    requires kept { IsKept parts.old marks.old }
+    requires new { AreAllNew (IsListed is_txn (decided_of parts.old.rows.items marks.old)) (links_of parts.old.rows.items) ids.now }
+    ensures kept { IsKept parts.new marks.new }
+    ensures rows { parts.new.rows ≡ parts.old.rows }
+    ensures decided { (t : Id) → is_listed is_txn (decided_of parts.old.rows.items marks.new) t ≡ is_listed is_txn (decided_of parts.old.rows.items marks.old ++ ids.now) t }
 {
     mark_all(&parts.numbers, marks, ids);
+    keep_open(&mut parts.undecided, &parts.rows, marks);
 }
 
 fn mark_all(numbers: &HashMap<TxnId, usize>, marks: &mut [Mark], ids: &[TxnId])
@@ -289,7 +310,7 @@ pub(crate) fn settle_kept(parts: &mut Parts, marks: &mut [Mark], bits: &mut BitR
     }
 }
 
-// Ends the rows of transactions that are decided. Takes no memory, and looks at no other list.
+// Ends the rows of transactions that are decided. Takes no memory, and looks at no other decided list.
 pub(crate) fn end_all(parts: &mut Parts, marks: &mut [Mark], bits: &mut BitRows, ids: &[TxnId])
     requires kept { AreKept parts.old marks.old bits.old }
     requires decided { (t : Id) → IsListed is_txn ids.now t → is_listed is_txn (decided_of parts.old.rows.items marks.old) t ≡ true }

@@ -30,7 +30,7 @@ pub(crate) fn new_ids(
     ensures new { IfOk result (λ ids. AreAllNew (IsListed is_txn (decided_of parts.now.rows.items marks.old)) (links_but except parts.now.rows.items) ids.items) }
     ensures once { IfOk result (λ ids. NoneTwice is_txn ids.items) }
 {
-    match newly(parts.alloc, &parts.rows, marks, except) {
+    match newly(parts.alloc, &parts.rows, marks, &parts.undecided, except) {
         Ok(numbers) => ids_at(parts.alloc, &parts.rows, &numbers),
         Err(fault) => Err(fault),
     }

@@ -6,7 +6,7 @@ ghost use Rattle.roc_server_table.specs.Inner.Changes.{ended};
 ghost use Rattle.roc_server_table.specs.Inner.Rows.{lists_of, IsWhole};
 ghost use Rattle.roc_server_table.specs.Inner.Except.{link_but, no_link, row_but, rows_but};
 ghost use Rattle.roc_server_table.specs.Inner.Leading.{LeadsBut};
-ghost use Rattle.roc_server_table.specs.Inner.Marks.{AreMarked, Drops, EndsAt, IsOut, MayEnd, Settles};
+ghost use Rattle.roc_server_table.specs.Inner.Marks.{AreMarked, AreOpen, Drops, EndsAt, HasWaiting, IsOut, MayEnd, Settles};
 
 use crate::marks::{Mark, is_told, no_mark, wake, wake_all};
 use crate::rows::{Link, Parts, Row, end, number_of};
@@ -17,9 +17,11 @@ use roc_sequence::Sequence;
 pub(crate) fn end_marked(parts: &mut Parts, marks: &mut [Mark], id: TxnId)
     requires whole { IsWhole parts.old }
     requires marked { AreMarked parts.old.rows.items marks.old }
+    requires undecided { AreOpen parts.old.rows.items marks.old parts.old.undecided.items }
     requires may { (n : ℕ) → lookup (is_txn id) parts.old.numbers.entries ≡ Some n → MayEnd parts.old.rows.items marks.old n }
     ensures whole { IsWhole parts.new }
     ensures marked { AreMarked parts.new.rows.items marks.new }
+    ensures undecided { AreOpen parts.new.rows.items marks.new parts.new.undecided.items }
     ensures ends { EndsAt (lookup (is_txn id) parts.old.numbers.entries) parts.old.rows.items parts.new.rows.items marks.old marks.new }
     ensures lists { lists_of parts.new.rows.items ≡ ended id (lists_of parts.old.rows.items) }
     ensures out { (n : ℕ) → lookup (is_txn id) parts.old.numbers.entries ≡ Some n → IsOut n parts.old.rows.items parts.new.rows.items }
@@ -28,35 +30,38 @@ pub(crate) fn end_marked(parts: &mut Parts, marks: &mut [Mark], id: TxnId)
     match number_of(&parts.numbers, id) {
         Some(at) => {
             end(parts, id);
-            drop_mark(marks, at);
+            drop_mark(marks, &parts.undecided, at);
         }
         None => end(parts, id),
     }
 }
 
 // Takes back the mark of a row, and wakes those that wait at it.
-fn drop_mark(marks: &mut [Mark], at: usize)
+fn drop_mark(marks: &mut [Mark], undecided: &[usize], at: usize)
+    requires { HasWaiting marks.old undecided.now }
     ensures { Drops at marks.old marks.new }
 {
-    wake(marks, at);
+    wake(marks, undecided, at);
     if at < marks.len() {
         marks[at] = no_mark();
     }
 }
 
 // The entries that name the transaction of a row are done. Its own list, where it has one, stays. Takes no memory: where it has a list it looks at
-// all others, and else at none.
+// all others, and else at those alone that are not decided.
 pub(crate) fn settle_at(parts: &mut Parts, marks: &mut [Mark], id: TxnId, at: usize)
     requires whole { IsWhole parts.old }
     requires marked { AreMarked parts.old.rows.items marks.old }
+    requires undecided { AreOpen parts.old.rows.items marks.old parts.old.undecided.items }
     requires here { lookup (is_txn id) parts.old.numbers.entries ≡ Some at }
     ensures whole { IsWhole parts.new }
     ensures settled { Settles id parts.old.rows.items parts.new.rows.items marks.old marks.new }
+    ensures undecided { AreOpen parts.new.rows.items marks.new parts.new.undecided.items }
     ensures leads { LeadsBut at parts.old.rows.items parts.new.rows.items }
 {
     if is_told(&parts.rows, at) {
         cut_rows(&mut parts.rows, at);
-        wake_all(marks);
+        wake_all(marks, &parts.undecided);
         return;
     }
     end_marked(parts, marks, id);

@@ -1,11 +1,11 @@
 //! Which rows are decided, and at which row without a list the others wait.
 ghost use Rattle.std.specs.Prelude.{◌≡◌, ◌≢◌, ◌⊎◌, ◌++◌, ◌∷◌, [], ◌<◌, ℕ, List, true, filter, length, nat_lt, not, IfOk, OnOk, if◌then◌else◌};
-ghost use Rattle.std.specs.List.{AllByRecursion, range_with_len};
+ghost use Rattle.std.specs.List.{AllByRecursion};
 ghost use Rattle.roc_base.specs.declared.id.TxnId.{TxnId as Id};
 ghost use Rattle.roc_server_table.specs.Inner.Rows.{row_at, is_alive, is_told, IsTable};
 ghost use Rattle.roc_server_table.specs.Inner.Except.{is_except, link_but, rows_but, IsExceptLive};
-ghost use Rattle.roc_server_table.specs.Inner.Marks.{no_mark, mark_at, is_in_question, AreInQuestion, AreMarked, AreNewRowsBut, AreSameDecided, FindsNew};
-ghost use Rattle.roc_server_table.specs.Inner.Marks.{Holds, HoldsAll, HoldsSome, IsHeldBy, IsHeldThrough, IsOpen, Wakes, WakesAll, WakesFor};
+ghost use Rattle.roc_server_table.specs.Inner.Marks.{no_mark, mark_at, is_in_question, is_open, AreInQuestion, AreMarked, AreNewRowsBut, AreOpen, AreSameDecided, FindsNew, HasWaiting};
+ghost use Rattle.roc_server_table.specs.Inner.Marks.{Holds, HoldsAll, HoldsSome, IsHeldBy, IsAwake, IsChangedAt, IsHeldThrough, IsOpen, IsWokenAt, WaitsNewly, Wakes, WakesAll, WakesFor};
 
 use crate::rows::{Link, Row};
 use roc_base::NoMemory;
@@ -224,13 +224,18 @@ fn push_question(
     Ok(())
 }
 
-// The rows in question, in their order.
-fn all_in_question(alloc: Global, rows: &[Row], marks: &[Mark]) -> Result<Vec<usize>, NoMemory>
-    ensures { IfOk result (λ todo. todo.items ≡ filter (is_in_question rows.now marks.now) (range_with_len 0 (length marks.now))) }
+// Those of some rows that are in question, in their order.
+fn all_in_question(
+    alloc: Global,
+    rows: &[Row],
+    marks: &[Mark],
+    undecided: &[usize],
+) -> Result<Vec<usize>, NoMemory>
+    ensures { IfOk result (λ todo. todo.items ≡ filter (is_in_question rows.now marks.now) undecided.now) }
 {
     let mut todo = Vec::new(alloc);
-    for at in 0..marks.len() {
-        push_question(&mut todo, rows, marks, at)?;
+    for at in undecided {
+        push_question(&mut todo, rows, marks, *at)?;
     }
     Ok(todo)
 }
@@ -248,6 +253,7 @@ fn decided_among(
     ensures marked { AreMarked (rows_but except rows.now) marks.new }
     ensures each { length marks.new ≡ length marks.old }
     ensures same { AreSameDecided marks.old marks.new }
+    ensures waiting { WaitsNewly (rows_but except rows.now) marks.old marks.new }
     ensures new { IfOk result (λ ns. FindsNew (rows_but except rows.now) marks.old ns.items) }
 {
     hold_all(rows, marks, except, todo);
@@ -260,52 +266,66 @@ pub(crate) fn newly(
     alloc: Global,
     rows: &[Row],
     marks: &mut [Mark],
+    undecided: &[usize],
     except: Option<usize>,
 ) -> Result<Vec<usize>, NoMemory>
     requires marked { AreMarked rows.now marks.old }
-    requires each { length marks.old ≡ length rows.now }
+    requires undecided { AreOpen rows.now marks.old undecided.now }
     requires live { IsExceptLive except rows.now }
     ensures marked { AreMarked rows.now marks.new }
+    ensures undecided { AreOpen rows.now marks.new undecided.now }
     ensures each { length marks.new ≡ length marks.old }
     ensures same { AreSameDecided marks.old marks.new }
     ensures new { IfOk result (λ ns. (numbers : List (Id × ℕ)) (stamp : ℕ) → IsTable numbers rows.now stamp → AreNewRowsBut except rows.now marks.old ns.items) }
 {
-    wake_aside(rows, marks, except);
-    match all_in_question(alloc, rows, marks) {
+    wake_aside(rows, marks, undecided, except);
+    match all_in_question(alloc, rows, marks, undecided) {
         Ok(todo) => decided_among(alloc, rows, marks, except, &todo),
         Err(fault) => Err(fault),
     }
 }
 
 // Wakes what waits at the row to which no link is followed, or may wait over it.
-fn wake_aside(rows: &[Row], marks: &mut [Mark], except: Option<usize>)
-    requires { AreMarked rows.now marks.old }
+fn wake_aside(rows: &[Row], marks: &mut [Mark], undecided: &[usize], except: Option<usize>)
+    requires marked { AreMarked rows.now marks.old }
+    requires undecided { HasWaiting marks.old undecided.now }
     ensures marked { AreMarked (rows_but except rows.now) marks.new }
     ensures each { length marks.new ≡ length marks.old }
     ensures same { AreSameDecided marks.old marks.new }
+    ensures waiting { WaitsNewly rows.now marks.old marks.new }
 {
     match except {
-        Some(at) => wake_for(rows, marks, at),
+        Some(at) => wake_for(rows, marks, undecided, at),
         None => {}
     }
 }
 
 // Wakes what waits at a row, and all where it has a list.
-fn wake_for(rows: &[Row], marks: &mut [Mark], at: usize)
+fn wake_for(rows: &[Row], marks: &mut [Mark], undecided: &[usize], at: usize)
+    requires { HasWaiting marks.old undecided.now }
     ensures { WakesFor rows.now at marks.old marks.new }
 {
     if is_told(rows, at) {
-        wake_all(marks);
+        wake_all(marks, undecided);
         return;
     }
-    wake(marks, at);
+    wake(marks, undecided, at);
 }
 
-// Those that wait at a row wait no longer.
-pub(crate) fn wake(marks: &mut [Mark], at: usize)
+// Those that wait at a row wait no longer. It looks at these rows alone.
+pub(crate) fn wake(marks: &mut [Mark], undecided: &[usize], at: usize)
+    requires { HasWaiting marks.old undecided.now }
     ensures { Wakes at marks.old marks.new }
 {
-    for place in 0..marks.len() {
+    for place in undecided {
+        wake_at(marks, *place, at);
+    }
+}
+
+fn wake_at(marks: &mut [Mark], place: usize, at: usize)
+    ensures { IsChangedAt (IsWokenAt at) place marks.old marks.new }
+{
+    if place < marks.len() {
         wake_one(&mut marks[place], at);
     }
 }
@@ -319,11 +339,37 @@ fn wake_one(mark: &mut Mark, at: usize)
     }
 }
 
-// None waits any longer: all that has a list and is not decided is in question.
-pub(crate) fn wake_all(marks: &mut [Mark])
+// None waits any longer: all that has a list and is not decided is in question. It looks at these rows alone.
+pub(crate) fn wake_all(marks: &mut [Mark], undecided: &[usize])
+    requires { HasWaiting marks.old undecided.now }
     ensures { WakesAll marks.old marks.new }
 {
-    for place in 0..marks.len() {
+    for place in undecided {
+        awaken(marks, *place);
+    }
+}
+
+fn awaken(marks: &mut [Mark], place: usize)
+    ensures { IsChangedAt IsAwake place marks.old marks.new }
+{
+    if place < marks.len() {
         marks[place].waits = Link { at: 0, birth: 0 };
     }
+}
+
+// Of rows that have lists and are not decided, leaves those that are so still.
+pub(crate) fn keep_open(undecided: &mut Vec<usize>, rows: &[Row], marks: &[Mark])
+    ensures { undecided.new.items ≡ filter (is_open rows.now marks.now) undecided.old.items }
+{
+    undecided.retain(|at| is_open(rows, marks, *at));
+}
+
+// Whether a row has a list and is not decided.
+fn is_open(rows: &[Row], marks: &[Mark], at: usize) -> bool
+    ensures { result ≡ is_open rows.now marks.now at }
+{
+    if mark_of(marks, at).decided {
+        return false;
+    }
+    is_told(rows, at)
 }

@@ -37,12 +37,14 @@ pub(crate) struct Row {
     pub next: usize,
 }
 
-// The rows, the number of each transaction that has one, the first free row, and the next birth or turn.
+// The rows, the number of each transaction that has one, the numbers of those that have a list and are not decided, the first free row, and the next
+// birth or turn.
 #[derive(Drop)]
 pub(crate) struct Parts {
     pub alloc: Global,
     pub numbers: HashMap<TxnId, usize>,
     pub rows: Vec<Row>,
+    pub undecided: Vec<usize>,
     pub free: usize,
     pub stamp: u64,
 }
@@ -51,11 +53,13 @@ pub(crate) struct Parts {
 pub(crate) fn none(alloc: Global) -> Parts
     ensures whole { IsWhole result }
     ensures rows { result.rows.items ≡ [] }
+    ensures undecided { result.undecided.items ≡ [] }
 {
     Parts {
         alloc,
         numbers: HashMap::new(alloc),
         rows: Vec::new(alloc),
+        undecided: Vec::new(alloc),
         free: 0,
         stamp: 1,
     }
@@ -90,6 +94,7 @@ fn place(rows: &mut Vec<Row>, free: &mut usize, row: Row) -> usize
 fn link_to(parts: &mut Parts, id: TxnId) -> Result<Link, NoMemory>
     requires whole { IsWhole parts.old }
     ensures whole { IsWhole parts.new }
+    ensures undecided { parts.new.undecided ≡ parts.old.undecided }
     ensures grows { GrowsTo parts.old parts.new }
     ensures no_fewer { length parts.old.rows.items ≤ length parts.new.rows.items }
     ensures at_most { length parts.new.rows.items ≤ length parts.old.rows.items + 1 }
@@ -119,6 +124,7 @@ fn make(parts: &mut Parts, id: TxnId) -> Result<Link, NoMemory>
     requires whole { IsWhole parts.old }
     requires absent { lookup (is_txn id) parts.old.numbers.entries ≡ None }
     ensures whole { IsWhole parts.new }
+    ensures undecided { parts.new.undecided ≡ parts.old.undecided }
     ensures grows { GrowsTo parts.old parts.new }
     ensures no_fewer { length parts.old.rows.items ≤ length parts.new.rows.items }
     ensures at_most { length parts.new.rows.items ≤ length parts.old.rows.items + 1 }
@@ -162,6 +168,7 @@ fn names_of(parts: &mut Parts, edges: &[Edge], done: &[TxnId]) -> Result<Sequenc
     requires whole { IsWhole parts.old }
     requires rising { IsStrictlySortedBy txn_cmp done.now }
     ensures whole { IsWhole parts.new }
+    ensures undecided { parts.new.undecided ≡ parts.old.undecided }
     ensures grows { GrowsTo parts.old parts.new }
     ensures no_fewer { length parts.old.rows.items ≤ length parts.new.rows.items }
     ensures at_most { length parts.new.rows.items ≤ length parts.old.rows.items + length edges.now }
@@ -181,6 +188,7 @@ fn link_of(parts: &mut Parts, id: TxnId, done: &[TxnId]) -> Result<Link, NoMemor
     requires whole { IsWhole parts.old }
     requires rising { IsStrictlySortedBy txn_cmp done.now }
     ensures whole { IsWhole parts.new }
+    ensures undecided { parts.new.undecided ≡ parts.old.undecided }
     ensures grows { GrowsTo parts.old parts.new }
     ensures no_fewer { length parts.old.rows.items ≤ length parts.new.rows.items }
     ensures at_most { length parts.new.rows.items ≤ length parts.old.rows.items + 1 }
@@ -203,6 +211,7 @@ pub(crate) fn learn(
     requires unknown { list_of id (known_of parts.old.rows.items) ≡ None }
     requires rising { IsStrictlySortedBy txn_cmp done.now }
     ensures whole { IsWhole parts.new }
+    ensures undecided { parts.new.undecided ≡ parts.old.undecided }
     ensures ok { OnOk result (lists_of parts.new.rows.items ≡ with_list done.now id edges (lists_of parts.old.rows.items)) }
     ensures learnt { IfOk result (IsLearnt parts.old parts.new) }
     ensures row { IfOk result (λ at. lookup (is_txn id) parts.new.numbers.entries ≡ Some at) }
@@ -234,6 +243,7 @@ pub(crate) fn learn(
 pub(crate) fn end(parts: &mut Parts, id: TxnId)
     requires whole { IsWhole parts.old }
     ensures whole { IsWhole parts.new }
+    ensures undecided { parts.new.undecided ≡ parts.old.undecided }
     ensures lists { lists_of parts.new.rows.items ≡ ended id (lists_of parts.old.rows.items) }
     ensures out { (n : ℕ) → lookup (is_txn id) parts.old.numbers.entries ≡ Some n → IsOut n parts.old.rows.items parts.new.rows.items }
     ensures same { lookup (is_txn id) parts.old.numbers.entries ≡ None → parts.new.rows.items ≡ parts.old.rows.items }
@@ -251,6 +261,7 @@ pub(crate) fn end(parts: &mut Parts, id: TxnId)
 pub(crate) fn untell(parts: &mut Parts, id: TxnId)
     requires whole { IsWhole parts.old }
     ensures whole { IsWhole parts.new }
+    ensures undecided { parts.new.undecided ≡ parts.old.undecided }
     ensures lists { lists_of parts.new.rows.items ≡ untold id (lists_of parts.old.rows.items) }
     ensures taken { (n : ℕ) → lookup (is_txn id) parts.old.numbers.entries ≡ Some n → IsTakenBack n parts.old.rows.items parts.new.rows.items }
     ensures same { lookup (is_txn id) parts.old.numbers.entries ≡ None → parts.new.rows.items ≡ parts.old.rows.items }

@@ -87,7 +87,7 @@ impl ListTable {
     }
 
     /// Learns lists, each of a transaction of which none is known then. The entries that name one of `done`, which rise, are not followed. `NoMemory`
-    /// leaves the table as it was.
+    /// leaves the table as it was. Of the lists that are known it looks at those alone that are not decided.
     pub fn learn(&mut self, news: &[KnownList], done: &[TxnId]) -> Result<(), NoMemory>
         requires learnable { AreLearnable self.old.known news.now }
         requires rising { IsStrictlySortedBy txn_cmp done.now }
@@ -110,8 +110,8 @@ impl ListTable {
         unlearn_all(&mut self.parts, &mut self.marks, &mut self.bits, news);
     }
 
-    /// What is decided by what is followed and is not marked so, each once, in any order. It looks at the lists alone that are not known to wait for
-    /// others. The lists and what is marked as decided stay, whether there is memory or not.
+    /// What is decided by what is followed and is not marked so, each once, in any order. It looks at the lists alone that are not decided, and at the
+    /// entries alone of those that are not known to wait for others. The lists and what is marked as decided stay, whether there is memory or not.
     pub fn newly(&mut self) -> Result<Vec<TxnId>, NoMemory>
         ensures same { self.new ≡ self.old }
         ensures new { IfOk result (λ ids. AreAllNew (IsListed is_txn self.old.decided) self.old.links ids.items) }
@@ -163,11 +163,11 @@ impl ListTable {
         ensures links { self.new.links ≡ self.old.links }
         ensures decided { IsRisingListOf (IsListed is_txn (self.old.decided ++ ids.now)) self.new.decided }
     {
-        decide_all(&self.parts, &mut self.marks, ids);
+        decide_all(&mut self.parts, &mut self.marks, ids);
     }
 
     /// The entries that name a transaction are done from now on. Its own list, where one is known, stays. Takes no memory. It looks at all other lists
-    /// where its own is known, and else at none.
+    /// where its own is known, and else at those alone that are not decided.
     pub fn settle(&mut self, id: TxnId)
         ensures known { self.new.known ≡ self.old.known }
         ensures links { self.new.links ≡ map (without_links (λ t. is_txn t id)) self.old.links }
@@ -177,7 +177,7 @@ impl ListTable {
     }
 
     /// Takes the lists of decided transactions out. Each entry that names one of them is done from then on. Takes no memory, and looks at no other
-    /// list.
+    /// decided list.
     pub fn forget(&mut self, ids: &[TxnId])
         requires { (t : Id) → IsListed is_txn ids.now t → IsListed is_txn self.old.decided t }
         ensures known { self.new.known ≡ filter (λ k. not (is_listed is_txn ids.now k.of)) self.old.known }

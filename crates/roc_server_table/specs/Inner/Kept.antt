@@ -10,7 +10,7 @@ use Rattle.roc_server_table.specs.declared.marks.Mark.{Mark}
 use Rattle.roc_server_table.specs.Kept.{TableLists}
 use Rattle.roc_server_table.specs.Inner.Rising.{rising_ids}
 use Rattle.roc_server_table.specs.Inner.Rows.{known_of, links_of, IsWhole}
-use Rattle.roc_server_table.specs.Inner.Marks.{mark_at, AreMarked}
+use Rattle.roc_server_table.specs.Inner.Marks.{mark_at, AreMarked, AreOpen}
 
 -- ---- what they hold
 
@@ -32,6 +32,8 @@ pub record IsKept (parts : Parts) (marks : List Mark) : Type 0 where
   pub marked : AreMarked parts.rows.items marks
   -- each row has one
   pub each : length marks ≡ length parts.rows.items
+  -- those that are open are listed
+  pub undecided : AreOpen parts.rows.items marks parts.undecided.items
 
 -- ---- marks that change
 

@@ -65,6 +65,14 @@ pub record IsOpen (rows : List Row) (marks : List Mark) (n : ℕ) : Type 0 where
   pub told : is_told (row_at rows n) ≡ true
   pub undecided : (mark_at marks n).decided ≡ false
 
+-- the same as a test
+abbrev pub is_open : List Row → List Mark → ℕ → Bool
+is_open rows marks n = not (mark_at marks n).decided && is_told (row_at rows n)
+
+-- all that waits is among these
+abbrev pub HasWaiting : List Mark → List ℕ → Type 0
+HasWaiting marks undecided = (n : ℕ) → 0 < (mark_at marks n).waits.birth → Has n undecided
+
 -- how many wait at none
 abbrev pub count_free : List Mark → ℕ
 count_free [] = 0
@@ -78,6 +86,10 @@ AreSameDecided old new = (n : ℕ) → (mark_at new n).decided ≡ (mark_at old 
 abbrev pub KeepsWaits : (old new : List Mark) → Type 0
 KeepsWaits old new = (n : ℕ) → 0 < (mark_at old n).waits.birth → 0 < (mark_at new n).waits.birth
 
+-- what waits newly has a list and was not decided
+abbrev pub WaitsNewly : List Row → (old new : List Mark) → Type 0
+WaitsNewly rows old new = (n : ℕ) → 0 < (mark_at new n).waits.birth → (0 < (mark_at old n).waits.birth) ⊎ ((is_told (row_at rows n) ≡ true) × ((mark_at old n).decided ≡ false))
+
 -- where it waits at none, all that it names does
 abbrev pub IsSettled : List Row → List Mark → ℕ → Type 0
 IsSettled rows marks n = (mark_at marks n).waits.birth ≡ 0 → LeadsFree rows marks n
@@ -88,6 +100,7 @@ pub record Holds (rows : List Row) (old new : List Mark) (n : ℕ) (changed : Bo
   pub same : AreSameDecided old new
   pub each : length new ≡ length old
   pub keeps : KeepsWaits old new
+  pub newly : WaitsNewly rows old new
   pub none : changed ≡ false → new ≡ old
   pub settled : changed ≡ false → IsSettled rows old n
   pub fewer : changed ≡ true → count_free new < count_free old
@@ -98,6 +111,7 @@ pub record HoldsSome (rows : List Row) (old new : List Mark) (ns : List ℕ) (ch
   pub same : AreSameDecided old new
   pub each : length new ≡ length old
   pub keeps : KeepsWaits old new
+  pub newly : WaitsNewly rows old new
   pub none : changed ≡ false → new ≡ old
   pub settled : changed ≡ false → AllByRecursion (IsSettled rows old) ns
   pub no_more : count_free new ≤ count_free old
@@ -109,6 +123,7 @@ pub record HoldsAll (rows : List Row) (old new : List Mark) (ns : List ℕ) : Ty
   pub same : AreSameDecided old new
   pub each : length new ≡ length old
   pub keeps : KeepsWaits old new
+  pub newly : WaitsNewly rows old new
   pub settled : AllByRecursion (IsSettled rows new) ns
 
 -- and it waits at none, as a test
@@ -119,6 +134,13 @@ is_in_question rows marks n = not (mark_at marks n).decided && (not (nat_lt 0 (m
 abbrev pub EachOnce : List ℕ → Type 0
 EachOnce [] = Unit {0}
 EachOnce (n ∷ ns) = (¬ Has n ns) × EachOnce ns
+
+-- these are all the rows that have lists and are not decided
+pub record AreOpen (rows : List Row) (marks : List Mark) (undecided : List ℕ) : Type 0 where
+  pub only : (n : ℕ) → Has n undecided → IsOpen rows marks n
+  pub all : (n : ℕ) → is_told (row_at rows n) ≡ true → (mark_at marks n).decided ≡ false → Has n undecided
+  pub once : EachOnce undecided
+  pub waiting : HasWaiting marks undecided
 
 -- these are all the rows in question
 pub record AreInQuestion (rows : List Row) (marks : List Mark) (ns : List ℕ) : Type 0 where
@@ -172,6 +194,20 @@ pub record IsTakenBack (n : ℕ) (old new : List Row) : Type 0 where
   pub own : is_told (row_at new n) ≡ false
   pub others : (k : ℕ) → k ≢ n → row_at new k ≡ row_at old k
   pub links : (l : Link) → is_alive new l ≡ is_alive old l
+
+-- one mark changes
+pub record IsChangedAt (R : Mark → Mark → Type 0) (n : ℕ) (old new : List Mark) : Type 0 where
+  pub each : length new ≡ length old
+  pub own : R (mark_at old n) (mark_at new n)
+  pub others : (k : ℕ) → k ≢ n → mark_at new k ≡ mark_at old k
+
+-- it waits at that row no longer
+abbrev pub IsWokenAt : ℕ → (old new : Mark) → Type 0
+IsWokenAt n old new = (new.decided ≡ old.decided) × ((new.waits.birth ≡ 0) ⊎ ((new.waits ≡ old.waits) × (old.waits.at ≢ n)))
+
+-- it waits no longer
+abbrev pub IsAwake : (old new : Mark) → Type 0
+IsAwake old new = (new.decided ≡ old.decided) × (new.waits.birth ≡ 0)
 
 -- those that waited at a row wait no longer, and all else stays
 pub record Wakes (n : ℕ) (old new : List Mark) : Type 0 where

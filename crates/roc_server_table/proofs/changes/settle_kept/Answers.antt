@@ -10,7 +10,7 @@ pub returns-in-Some-clause-kept : goal.returns-in-Some-clause-kept
 returns-in-Some-clause-kept c =
     let e = c.settle_at.ensures in
     record {
-      kept = record { whole = e.whole; marked = e.settled.marked; each = e.settled.each ∙ (c.requires.kept.each ∙ sym e.settled.rows) };
+      kept = record { whole = e.whole; marked = e.settled.marked; each = e.settled.each ∙ (c.requires.kept.each ∙ sym e.settled.rows); undecided = e.undecided };
       bits = but_bits c.in-Some.at c.args.parts.now.rows.items c.settle_at.new.parts.rows.items c.args.bits.now c.clear_column.new.self e.leads c.requires.bits c.clear_column.ensures;
     }
 

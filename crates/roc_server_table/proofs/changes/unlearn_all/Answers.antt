@@ -1,9 +1,13 @@
-use Rattle.std.proofs.Common.{◌∙◌, List, ap}
+use Rattle.std.proofs.Common.{◌∙◌, ℕ, List, sym, ap, subst}
 use Rattle.roc_sequence.specs.Places.{is_listed}
 use Rattle.roc_base.specs.declared.id.TxnId.{TxnId}
 use Rattle.roc_base.specs.TxnId.{is_txn}
+use Rattle.roc_server_table.specs.Inner.Marks.{HasWaiting}
 use Rattle.roc_server_table.proofs.TakenBack.{awake_decided, awake_kept}
 use Rattle.roc_server_table.proofs.changes.unlearn_all.Goals as goal
+
+pub wake_all-requires : goal.wake_all-requires
+wake_all-requires c = subst (λ (ns : List ℕ). HasWaiting c.args.marks.now ns) (sym c.deref.ensures.value) c.requires.kept.kept.undecided.waiting
 
 pub untell_all-requires : goal.untell_all-requires
 untell_all-requires c =

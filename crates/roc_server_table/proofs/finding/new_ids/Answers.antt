@@ -1,4 +1,4 @@
-use Rattle.std.proofs.Common.{◌≡◌, ℕ, List, map, Option, Result, Ok, Err, sym, subst}
+use Rattle.std.proofs.Common.{◌≡◌, ◌∙◌, ℕ, List, length, map, Option, Result, Ok, Err, sym, subst}
 use Rattle.std.specs.Prelude.{IfOk, Vec}
 use Rattle.std.specs.declared.alloc.Global.{Global}
 use Rattle.roc_sequence.specs.Places.{IsListed, NoneTwice}
@@ -11,8 +11,9 @@ use Rattle.roc_server_table.specs.declared.rows.Parts.{Parts}
 use Rattle.roc_server_table.specs.declared.marks.Mark.{Mark}
 use Rattle.roc_server_table.specs.Inner.LinksBut.{links_but}
 use Rattle.roc_server_table.specs.Inner.Rows.{row_at, IsTable, IsWhole}
-use Rattle.roc_server_table.specs.Inner.Marks.{AreNewRowsBut}
-use Rattle.roc_server_table.specs.Inner.Kept.{decided_of}
+use Rattle.roc_server_table.specs.Inner.Except.{IsExceptLive}
+use Rattle.roc_server_table.specs.Inner.Marks.{AreMarked, AreNewRowsBut, AreOpen}
+use Rattle.roc_server_table.specs.Inner.Kept.{decided_of, IsKept}
 use Rattle.roc_server_table.proofs.NewIds.{alike_decided, all_new_ids, new_once}
 use Rattle.roc_server_table.proofs.finding.new_ids.Goals as goal
 
@@ -28,6 +29,39 @@ ids_found : (P : List TxnId → Type 0) (rows rs : List Row) (numbers ns : List 
 ids_found P rows rs numbers ns (Ok v) e f p h =
     subst P (sym h) (subst (λ (x : List Row). P (map (λ n. (row_at x n).id) ns)) (sym e) (subst (λ (xs : List ℕ). P (map (λ n. (row_at rows n).id) xs)) (sym f) p))
 ids_found P rows rs numbers ns (Err x) e f p h = tt
+
+-- rows were looked at
+kept : (p : Parts) (rs : List Row) (ns : List ℕ) (marks new : List Mark) → rs ≡ p.rows.items → ns ≡ p.undecided.items → IsKept p marks → AreMarked rs new → length new ≡ length marks
+    → AreOpen rs new ns → IsKept p new
+kept p rs ns marks new e f k marked each open_rows =
+    record {
+      whole = k.whole;
+      marked = subst (λ (x : List Row). AreMarked x new) e marked;
+      each = each ∙ k.each;
+      undecided = subst (λ (x : List ℕ). AreOpen p.rows.items new x) f (subst (λ (x : List Row). AreOpen x new ns) e open_rows);
+    }
+
+pub newly-requires : goal.newly-requires
+newly-requires c =
+    let p = c.args.parts.now in
+    let k = c.requires.kept in
+    let same = c.deref.ensures.value in
+    record {
+      marked = subst (λ (rs : List Row). AreMarked rs c.args.marks.now) (sym same) k.marked;
+      undecided = subst (λ (rs : List Row). AreOpen rs c.args.marks.now c.deref-2.result.now) (sym same)
+          (subst (λ (ns : List ℕ). AreOpen p.rows.items c.args.marks.now ns) (sym c.deref-2.ensures.value) k.undecided);
+      live = subst (λ (rs : List Row). IsExceptLive c.args.except rs) (sym same) c.requires.live;
+    }
+
+pub returns-in-Ok-clause-kept : goal.returns-in-Ok-clause-kept
+returns-in-Ok-clause-kept c =
+    let e = c.newly.ensures in
+    kept c.args.parts.now c.deref.result.now c.deref-2.result.now c.args.marks.now c.newly.new.marks c.deref.ensures.value c.deref-2.ensures.value c.requires.kept e.marked e.each e.undecided
+
+pub returns-in-Err-clause-kept : goal.returns-in-Err-clause-kept
+returns-in-Err-clause-kept c =
+    let e = c.newly.ensures in
+    kept c.args.parts.now c.deref.result.now c.deref-2.result.now c.args.marks.now c.newly.new.marks c.deref.ensures.value c.deref-2.ensures.value c.requires.kept e.marked e.each e.undecided
 
 pub returns-in-Ok-clause-new : goal.returns-in-Ok-clause-new
 returns-in-Ok-clause-new c =

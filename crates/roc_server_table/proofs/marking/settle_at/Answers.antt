@@ -1,11 +1,14 @@
-use Rattle.std.proofs.Common.{◌≡◌, ◌∙◌, List, Some, false, inr, sym, ap, subst}
+use Rattle.std.proofs.Common.{◌≡◌, ◌∙◌, ℕ, List, Some, false, inr, sym, ap, subst}
 use Rattle.std.specs.Map.{lookup}
 use Rattle.roc_base.specs.TxnId.{is_txn}
 use Rattle.roc_server_table.specs.declared.rows.Row.{Row}
 use Rattle.roc_server_table.specs.Inner.Rows.{row_at, is_told, IsTable}
-use Rattle.roc_server_table.proofs.Excepted.{table_but}
+use Rattle.roc_server_table.proofs.Excepted.{table_but, told_but}
 use Rattle.roc_server_table.proofs.LeadingRows.{cut_but, out_but}
 use Rattle.roc_server_table.proofs.Settled.{one_found, told_settled, untold_settled}
+use Rattle.roc_server_table.specs.Inner.Except.{rows_but}
+use Rattle.roc_server_table.specs.Inner.Marks.{AreOpen, HasWaiting}
+use Rattle.roc_server_table.proofs.OpenRows.{open_awake}
 use Rattle.roc_server_table.proofs.marking.settle_at.Goals as goal
 
 pub returns-then-is_told-clause-whole : goal.returns-then-is_told-clause-whole
@@ -42,3 +45,13 @@ returns-clause-leads c =
     let p = c.args.parts.now in
     let untold : is_told (row_at p.rows.items c.args.at) ≡ false = ap (λ (rs : List Row). is_told (row_at rs c.args.at)) (sym c.deref.ensures.value) ∙ (sym c.is_told.ensures ∙ c.if-is_told.false) in
     out_but c.args.at p.rows.items c.end_marked.new.parts.rows.items (c.end_marked.ensures.out c.args.at c.requires.here) untold
+
+pub wake_all-requires : goal.wake_all-requires
+wake_all-requires c = subst (λ (ns : List ℕ). HasWaiting c.args.marks.now ns) (sym c.deref-then-is_told.ensures.value) c.requires.undecided.waiting
+
+pub returns-then-is_told-clause-undecided : goal.returns-then-is_told-clause-undecided
+returns-then-is_told-clause-undecided c =
+    let p = c.args.parts.now in
+    subst (λ (rs : List Row). AreOpen rs c.wake_all.new.marks p.undecided.items) (sym c.cut_rows.ensures)
+    (open_awake p.rows.items (rows_but (Some c.args.at) p.rows.items) c.args.marks.now c.wake_all.new.marks p.undecided.items c.requires.undecided c.wake_all.ensures
+    (told_but (Some c.args.at) p.rows.items))

@@ -8,17 +8,30 @@ use Rattle.roc_server_table.specs.Inner.Except.{rows_but}
 use Rattle.roc_server_table.specs.Inner.Marks.{AreInQuestion, AreNewRowsBut, FindsNew}
 use Rattle.roc_server_table.proofs.ExceptedMarks.{marked_back}
 use Rattle.roc_server_table.proofs.InQuestion.{are_in_question, found_new}
+use Rattle.roc_server_table.proofs.OpenRows.{newly_but, open_held}
 use Rattle.roc_server_table.proofs.marks.newly.Goals as goal
 
 pub decided_among-requires-clause-todo : goal.decided_among-requires-clause-todo
 decided_among-requires-clause-todo c =
     subst (AreInQuestion (rows_but c.args.except c.args.rows.now) c.wake_aside.new.marks) (sym c.deref.ensures.value)
-    (are_in_question c.args.except c.args.rows.now c.wake_aside.new.marks c.in-Ok.todo.items (c.wake_aside.ensures.each ∙ c.requires.each) c.in-Ok.ensures)
+    (are_in_question c.args.except c.args.rows.now c.args.marks.now c.wake_aside.new.marks c.args.undecided.now c.in-Ok.todo.items c.requires.undecided c.wake_aside.ensures.same
+    c.wake_aside.ensures.each c.in-Ok.ensures)
 
 pub returns-in-Ok-clause-marked : goal.returns-in-Ok-clause-marked
 returns-in-Ok-clause-marked c =
     marked_back c.args.except c.args.rows.now c.args.marks.now c.decided_among.new.marks c.requires.marked (λ n. c.decided_among.ensures.same n ∙ c.wake_aside.ensures.same n)
     c.decided_among.ensures.marked
+
+pub returns-in-Ok-clause-undecided : goal.returns-in-Ok-clause-undecided
+returns-in-Ok-clause-undecided c =
+    let rows = c.args.rows.now in
+    let aside = open_held rows c.args.marks.now c.wake_aside.new.marks c.args.undecided.now c.requires.undecided c.wake_aside.ensures.each c.wake_aside.ensures.same c.wake_aside.ensures.waiting in
+    open_held rows c.wake_aside.new.marks c.decided_among.new.marks c.args.undecided.now aside c.decided_among.ensures.each c.decided_among.ensures.same
+    (newly_but c.args.except rows c.wake_aside.new.marks c.decided_among.new.marks c.decided_among.ensures.waiting)
+
+pub returns-in-Err-clause-undecided : goal.returns-in-Err-clause-undecided
+returns-in-Err-clause-undecided c =
+    open_held c.args.rows.now c.args.marks.now c.wake_aside.new.marks c.args.undecided.now c.requires.undecided c.wake_aside.ensures.each c.wake_aside.ensures.same c.wake_aside.ensures.waiting
 
 pub returns-in-Ok-clause-same : goal.returns-in-Ok-clause-same
 returns-in-Ok-clause-same c n = c.decided_among.ensures.same n ∙ c.wake_aside.ensures.same n

@@ -1,7 +1,10 @@
 use Rattle.std.proofs.Common.{◌≡◌, ◌∙◌, ◌++◌, List, length, ap, subst, sym, arith}
+use Rattle.std.specs.Prelude.{Vec}
+use Rattle.std.specs.declared.alloc.Global.{Global}
 use Rattle.roc_sequence.specs.Places.{IsListed, is_listed}
 use Rattle.roc_base.specs.declared.id.TxnId.{TxnId}
 use Rattle.roc_base.specs.TxnId.{is_txn}
+use Rattle.roc_server_table.specs.declared.rows.Row.{Row}
 use Rattle.roc_server_table.specs.declared.marks.Mark.{Mark}
 use Rattle.roc_server_table.specs.Kept.{TableLists}
 use Rattle.roc_server_table.specs.Inner.Kept.{decided_of}
@@ -26,8 +29,10 @@ returns-clause-decided c =
     let new : List TxnId = decided_of rows c.decide_all.new.marks in
     let each : length c.decide_all.new.marks ≡ length c.deref_mut.result.now = omega arith in
     let many : length c.decide_all.new.marks ≡ length c.self.inside.marks.items = each ∙ ap length c.deref_mut.ensures.value in
-    subst (λ (ms : List Mark). IsRisingListOf (IsListed is_txn (c.args.self.now.decided ++ c.args.ids.now)) (rising_ids (decided_of rows ms)))
+    let named : TxnId → Type 0 = IsListed is_txn (c.args.self.now.decided ++ c.args.ids.now) in
+    subst (λ (ms : List Mark). IsRisingListOf named (rising_ids (decided_of c.decide_all.new.parts.rows.items ms)))
     (sym (refilled c.self.inside.marks.len c.decide_all.new.marks c.self.inside.marks.items many c.self.inside.marks.ok.0))
+    (subst (λ (rs : Vec Row Global). IsRisingListOf named (rising_ids (decided_of rs.items c.decide_all.new.marks))) (sym c.decide_all.ensures.rows)
     (subst (λ (t : TableLists). IsRisingListOf (IsListed is_txn (t.decided ++ c.args.ids.now)) (rising_ids new)) c.self.view_is
     (ids_added (decided_of rows c.self.inside.marks.items) c.args.ids.now new
-    (λ u. c.decide_all.ensures.decided u ∙ ap (λ (ms : List Mark). is_listed is_txn (decided_of rows ms ++ c.args.ids.now) u) c.deref_mut.ensures.value)))
+    (λ u. c.decide_all.ensures.decided u ∙ ap (λ (ms : List Mark). is_listed is_txn (decided_of rows ms ++ c.args.ids.now) u) c.deref_mut.ensures.value))))

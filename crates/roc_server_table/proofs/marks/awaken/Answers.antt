@@ -1,0 +1,14 @@
+use Rattle.std.proofs.Common.{refl}
+use Rattle.roc_server_table.specs.declared.marks.Mark.{Mark}
+use Rattle.roc_server_table.specs.Inner.Except.{no_link}
+use Rattle.roc_server_table.specs.Inner.Marks.{mark_at, IsAwake}
+use Rattle.roc_server_table.proofs.Walked.{changed_none, changed_set}
+use Rattle.roc_server_table.proofs.marks.awaken.Goals as goal
+
+pub returns-then-place-marks : goal.returns-then-place-marks
+returns-then-place-marks c =
+    let m : Mark = record { decided = (mark_at c.args.marks.now c.args.place).decided; waits = no_link } in
+    changed_set IsAwake c.args.marks.now c.args.place m c.if-place-marks.true (refl, refl)
+
+pub returns-else-place-marks : goal.returns-else-place-marks
+returns-else-place-marks c = changed_none IsAwake c.args.marks.now c.args.place c.if-place-marks.false (refl, refl)
