@@ -1,5 +1,5 @@
 -- Servers that keep the same, room aside
-use Rattle.std.proofs.Common.{◌≡◌, ◌&&◌, not, false, List, filter, sym, ap, subst, ◌∙◌}
+use Rattle.std.proofs.Common.{◌≡◌, ◌&&◌, not, false, List, filter, sym, subst, ◌∙◌}
 use Rattle.std.specs.List.{AllByRecursion, flat_map}
 use Rattle.std.specs.List.Sorted.{IsStrictlySortedBy}
 use Rattle.roc_sequence.specs.Lists.{Has}
@@ -9,7 +9,7 @@ use Rattle.roc_base.specs.TxnId.{is_txn, txn_cmp}
 use Rattle.roc_base.specs.Edge.{Dependency}
 use Rattle.roc_depgraph.specs.declared.known.KnownList.{KnownList}
 use Rattle.roc_depgraph.specs.Deps.{is_known, IsDecided}
-use Rattle.roc_step.specs.Waits.{Awaited, Waiting, was_asked_for}
+use Rattle.roc_step.specs.Waits.{Waiting, was_asked_for}
 use Rattle.roc_step.specs.declared.waits.OpenFetch.{OpenFetch}
 use Rattle.roc_server_index.specs.GroupRefs.{HaveSameRefs}
 use Rattle.roc_step.specs.Links.{all_entries, AreLinksOf}
@@ -18,8 +18,9 @@ use Rattle.roc_server.specs.declared.server_data.ServerData.{ServerData}
 use Rattle.roc_step.specs.declared.started.StartedGroup.{StartedGroup}
 use Rattle.roc_step.specs.Below.{is_ended}
 use Rattle.roc_step.specs.Forgets.{over}
-use Rattle.roc_server.specs.Inner.Indexed.{group_refs_of, undecided}
-use Rattle.roc_server.specs.Inner.ServerData.{IsConsistent, IsRight, IsSame, is_same_group}
+use Rattle.roc_server_groups.specs.Indexed.{group_refs_of, undecided_refs}
+use Rattle.roc_server.specs.Inner.ServerData.{IsConsistent, IsRight, IsSame}
+use Rattle.roc_server_groups.specs.Groups.{is_same_group}
 use Rattle.roc_step.specs.State.{is_here}
 
 -- all but the cells is the same, room aside
@@ -42,7 +43,7 @@ alike_right old new p h =
       decided_rising = subst (λ (t : TableLists). IsStrictlySortedBy txn_cmp t.decided) (sym p.table) h.decided_rising;
       decided_only = subst (λ (t : TableLists). (u : TxnId) → IsListed is_txn t.decided u → IsDecided t.links u) (sym p.table) h.decided_only;
       decided_all = subst (λ (t : TableLists). (u : TxnId) → IsDecided t.links u → IsListed is_txn t.decided u) (sym p.table) h.decided_all;
-      index = λ c. p.index c ∙ h.index c ∙ (λ i. undecided (sym p.table i).decided (group_refs_of c (sym p.started i)));
+      index = λ c. p.index c ∙ h.index c ∙ (λ i. undecided_refs (sym p.table i).decided (group_refs_of c (sym p.started i)));
       none_left =
           subst (λ w. Left new.table.links new.started.groups w) (sym p.waiting)
           (subst (λ es. Left new.table.links es old.waits.waiting) (sym p.started) (subst (λ (t : TableLists). Left t.links old.started.groups old.waits.waiting) (sym p.table) h.none_left));
@@ -71,23 +72,3 @@ alike_same old new cells p h = record {
   };
   sound = alike_sound old new p h;
 }
-
--- who asked is in no invariant
-pub asked_alike : (k : ServerData) (waits : Awaited) → IsRight k → waits.waiting.asked ≡ k.waits.waiting.asked → waits.fetches ≡ k.waits.fetches → IsRight (record k { waits = waits })
-asked_alike k waits h same open_same =
-    record {
-      groups_once = h.groups_once;
-      decided_rising = h.decided_rising;
-      decided_only = h.decided_only;
-      decided_all = h.decided_all;
-      index = h.index;
-      none_left =
-          subst (λ (asked : List OpenFetch). AllByRecursion (λ (d : Dependency). (not (is_known k.table.links d.from) && (not (is_here d.from k.started.groups) && not (was_asked_for d.from asked))) ≡ false) (all_entries k.table.links))
-          (sym same) h.none_left;
-      open_unknown = open_same ∙ h.open_unknown ∙ ap (filter (λ (a : OpenFetch). not (is_known k.table.links a.id))) (sym same);
-      linked = h.linked;
-      taken_decided = h.taken_decided;
-      decided_taken = h.decided_taken;
-      taken_once = h.taken_once;
-      taken_some = h.taken_some;
-    }

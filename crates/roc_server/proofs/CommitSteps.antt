@@ -1,52 +1,27 @@
 -- What comes of messages that teach lists
-use Rattle.std.proofs.Common.{◌≡◌, Bool, true, false, not, ◌&&◌, cond, List, [], ◌∷◌, ◌++◌, if◌then◌else◌, Option, Some, None, refl, sym, ap, subst, append-nil}
+use Rattle.std.proofs.Common.{◌≡◌, Bool, true, false, cond, List, [], ◌∷◌, ◌++◌, Option, Some, None, refl, sym, subst, append-nil}
 use Rattle.roc_sequence.specs.Places.{is_listed}
 use Rattle.roc_base.specs.declared.id.TxnId.{TxnId}
 use Rattle.roc_base.specs.declared.node.Shard.{Shard}
 use Rattle.roc_base.specs.Edge.{Dependency}
 use Rattle.roc_base.specs.TxnId.{is_txn}
-use Rattle.roc_step.specs.Waits.{was_asked_for}
 use Rattle.roc_depgraph.specs.declared.known.KnownList.{KnownList}
 use Rattle.roc_depgraph.specs.Deps.{IsDecided}
 use Rattle.roc_step.proofs.TakenNew.{nothing_new}
 use Rattle.roc_msg.specs.Outbox.{Collected}
-use Rattle.roc_msg.specs.declared.reason.Reason.TheVariants.{NotHere, Differs}
 use Rattle.roc_plan.specs.Groups.{Plan}
 use Rattle.roc_step.specs.declared.handled.Handled.{Handled}
-use Rattle.roc_step.specs.declared.handled.Handled.TheVariants.{Gone, Ignored}
 use Rattle.roc_server.specs.declared.server_data.ServerData.{ServerData}
-use Rattle.roc_step.specs.Below.{is_ended}
 use Rattle.roc_step.specs.Forgets.{forgetting}
 use Rattle.roc_step.specs.Runs.{commitok_of}
 use Rattle.roc_step.specs.New.{AreNewTaken}
-use Rattle.roc_step.specs.Carried.{list_with, carried, is_unlike, unknown_of}
-use Rattle.roc_step.specs.Lists.{commit_differs, commit_refusal, commit_taken, after_commit, known_refusal, after_known, links_of, taught}
+use Rattle.roc_step.specs.Carried.{list_with, carried, unknown_of}
+use Rattle.roc_step.specs.Lists.{commit_refusal, commit_taken, after_commit, known_refusal, after_known, links_of, taught}
 use Rattle.roc_server.specs.Inner.ServerData.{state_of}
 use Rattle.roc_server.specs.Inner.Taught.{own_again, with_own, Teaches, Commits, Knows}
-use Rattle.roc_step.specs.State.{refused, is_here, ServerState, ServerStep}
+use Rattle.roc_step.specs.State.{refused, ServerState, ServerStep}
 use Rattle.roc_step.specs.Step.{unless_refused}
 use Rattle.roc_server.specs.Inner.Shown.{ShowsStep}
-
--- what a message is answered of a transaction that is not here
-abbrev pub too_late : Bool → Handled
-too_late ended = if ended then Gone else Ignored NotHere
-
--- a refusal, by its tests
-abbrev pub refusal_by : Bool → Bool → Bool → Option Handled
-refusal_by here ended differs = cond (not here && ended) (Some Gone) (cond (not here) (Some (Ignored NotHere)) (cond differs (Some (Ignored Differs)) None))
-
-pub refused_late : (here ended differs : Bool) → here ≡ false → Some (too_late ended) ≡ refusal_by here ended differs
-refused_late here true differs e = ap (λ h. cond (not h && true) (Some Gone) (cond (not h) (Some (Ignored NotHere)) (cond differs (Some (Ignored Differs)) None))) (sym e)
-refused_late here false differs e = ap (λ h. cond (not h && false) (Some Gone) (cond (not h) (Some (Ignored NotHere)) (cond differs (Some (Ignored Differs)) None))) (sym e)
-
-pub refused_here : (here ended differs : Bool) → here ≡ true → cond differs (Some (Ignored Differs)) None ≡ refusal_by here ended differs
-refused_here here ended differs e = ap (λ h. refusal_by h ended differs) (sym e)
-
-pub commit_refused_by : (s : ServerState) (id : TxnId) (edges : List Dependency) (facts : List KnownList) → refusal_by (is_here id s.started) (is_ended s.below id) (commit_differs s id edges facts) ≡ commit_refusal s id edges facts
-commit_refused_by s id edges facts = refl
-
-pub known_refused_by : (s : ServerState) (id : TxnId) (edges : List Dependency) → refusal_by (was_asked_for id s.lists.waiting.asked) (is_ended s.below id) (is_unlike s.lists.known (list_with id edges)) ≡ known_refusal s id edges
-known_refused_by s id edges = refl
 
 module _ (plan : Plan) (shard : Shard) (old : ServerData) (before : Collected) (id : TxnId) (edges : List Dependency) where
   abbrev s : ServerState

@@ -31,31 +31,32 @@ use Rattle.roc_step.specs.Start.{uses_cell}
 use Rattle.roc_step.specs.State.{is_here}
 use Rattle.roc_server.specs.Inner.Forgetting.{Forgets, IsOverOf}
 use Rattle.roc_server.specs.Inner.Over.{TakenComponents}
-use Rattle.roc_server.specs.Inner.Indexed.{group_ref_of, group_refs_of, undecided}
-use Rattle.roc_server.specs.Inner.Keyed.{Entered}
-use Rattle.roc_server.specs.Inner.ServerData.{state_of, is_left, is_same_group, IsConsistent, IsRight}
-use Rattle.roc_server.proofs.IndexSteps.{filter_both}
+use Rattle.roc_server_groups.specs.Indexed.{group_ref_of, group_refs_of, undecided_refs}
+use Rattle.roc_server_groups.specs.Entered.{Entered}
+use Rattle.roc_server.specs.Inner.ServerData.{state_of, is_left, IsConsistent, IsRight}
+use Rattle.roc_server_groups.specs.Groups.{is_same_group}
+use Rattle.roc_server_groups.proofs.IndexSteps.{filter_both}
 use Rattle.roc_server.proofs.SomeLeft.{any_some, members, member_all, member_some, members_once, none_of_others, not_in_two, once_some, some_member}
 
 -- ---- the index has the same references, where what is forgotten was decided and about the rest the same is
 
 index_left : (forgotten : TxnId → Bool) (before after : List TxnId) → ((t : TxnId) → forgotten t ≡ true → is_listed is_txn before t ≡ true)
     → ((t : TxnId) → forgotten t ≡ false → is_listed is_txn after t ≡ is_listed is_txn before t)
-    → (c : Cell) (es : List StartedGroup) → undecided before (group_refs_of c es) ≡ undecided after (group_refs_of c (filter (λ e. not (forgotten e.id)) es))
+    → (c : Cell) (es : List StartedGroup) → undecided_refs before (group_refs_of c es) ≡ undecided_refs after (group_refs_of c (filter (λ e. not (forgotten e.id)) es))
 index_left forgotten before after were same c [] = refl
 index_left forgotten before after were same c (e ∷ es) = go (forgotten e.id) refl (uses_cell c e) refl (index_left forgotten before after were same c es)
   where
     some : List StartedGroup
     some = filter (λ x. not (forgotten x.id)) es
 
-    go : (b : Bool) → forgotten e.id ≡ b → (u : Bool) → uses_cell c e ≡ u → undecided before (group_refs_of c es) ≡ undecided after (group_refs_of c some)
-        → undecided before (if u then group_ref_of e ∷ group_refs_of c es else group_refs_of c es) ≡ undecided after (group_refs_of c (cond (not b) (e ∷ some) some))
-    go true f true used ih = ap (λ b. cond (not b) (group_ref_of e ∷ undecided before (group_refs_of c es)) (undecided before (group_refs_of c es))) (were e.id f) ∙ ih
+    go : (b : Bool) → forgotten e.id ≡ b → (u : Bool) → uses_cell c e ≡ u → undecided_refs before (group_refs_of c es) ≡ undecided_refs after (group_refs_of c some)
+        → undecided_refs before (if u then group_ref_of e ∷ group_refs_of c es else group_refs_of c es) ≡ undecided_refs after (group_refs_of c (cond (not b) (e ∷ some) some))
+    go true f true used ih = ap (λ b. cond (not b) (group_ref_of e ∷ undecided_refs before (group_refs_of c es)) (undecided_refs before (group_refs_of c es))) (were e.id f) ∙ ih
     go true f false used ih = ih
     go false f true used ih =
         (λ i. cond (not (sym (same e.id f) i)) (group_ref_of e ∷ ih i) (ih i))
-        ∙ ap (λ u. undecided after (if u then group_ref_of e ∷ group_refs_of c some else group_refs_of c some)) (sym used)
-    go false f false used ih = ih ∙ ap (λ u. undecided after (if u then group_ref_of e ∷ group_refs_of c some else group_refs_of c some)) (sym used)
+        ∙ ap (λ u. undecided_refs after (if u then group_ref_of e ∷ group_refs_of c some else group_refs_of c some)) (sym used)
+    go false f false used ih = ih ∙ ap (λ u. undecided_refs after (if u then group_ref_of e ∷ group_refs_of c some else group_refs_of c some)) (sym used)
 
 -- ---- these are over
 
@@ -239,7 +240,7 @@ module _ (was : ServerData) (gone : List TxnId) (o : IsOverOf was gone) where
       index = λ c.
           right.index c
           ∙ index_left forgotten was.table.decided table.decided (λ t e. listed_test is_txn was.table.decided t (were_listed t e)) same_decided c was.started.groups
-          ∙ ap (λ es. undecided table.decided (group_refs_of c es)) (sym groups_are);
+          ∙ ap (λ es. undecided_refs table.decided (group_refs_of c es)) (sym groups_are);
       none_left = none_left;
       open_unknown = fetches_are ∙ open_now ∙ (λ i. filter (unknown (sym links_are i)) (sym asked_are i));
       linked = linked_now;

@@ -8,7 +8,7 @@ use Rattle.roc_plan.specs.Groups.{Plan}
 use Rattle.roc_server.specs.declared.ahead.Ahead.{Ahead}
 use Rattle.roc_server.specs.declared.server_data.ServerData.{ServerData}
 use Rattle.roc_server.specs.declared.views.Views.{Views}
-use Rattle.roc_server.specs.Ahead.{needs_room, HasAllMade, HasRoom, HasRoomToTake, IsMadeFor, IsReady, ServingFits}
+use Rattle.roc_server.specs.Ahead.{HasRoom, HasRoomToTake, IsMadeFor, IsReady, ServingFits}
 use Rattle.roc_server.specs.Inner.AtOnce.{at_once}
 use Rattle.roc_server.specs.Inner.Held.{kept_before, made_ahead, serving, viewing_of, viewing_then, CanCount, IsHeld, IsServed}
 use Rattle.roc_server.specs.Inner.Planned.{after}

@@ -18,14 +18,15 @@ use Rattle.roc_step.specs.declared.started.StartedGroup.{StartedGroup}
 use Rattle.roc_step.specs.Start.{uses_cell}
 use Rattle.roc_step.specs.State.{find_group}
 use Rattle.roc_server.specs.Inner.Answering.{is_held_up, writes_one}
-use Rattle.roc_server.specs.Inner.Indexed.{group_ref_of, group_refs_of, holds_at, undecided, writes_cell, IsIndexOf}
+use Rattle.roc_server_groups.specs.Indexed.{group_ref_of, group_refs_of, undecided_refs, IsIndexOf}
+use Rattle.roc_server.specs.Inner.HoldsUp.{holds_at, writes_cell}
 use Rattle.roc_server.specs.Inner.Planned.{before, IsPlanned}
-use Rattle.roc_server.specs.Inner.ServerData.{is_same_group}
-use Rattle.roc_server.proofs.CellByCell.{AreFound}
+use Rattle.roc_server_groups.specs.Groups.{is_same_group}
+use Rattle.roc_server_groups.proofs.CellByCell.{AreFound}
 use Rattle.roc_server.proofs.MadeSteps.{planned_sound}
 use Rattle.roc_server.proofs.ReadsBefore.{same_by, untouched_by}
-use Rattle.roc_server.proofs.SameGroups.{once_same}
-use Rattle.roc_server.proofs.Stands.{group_found, group_refs_same}
+use Rattle.roc_server_groups.proofs.SameGroups.{once_same}
+use Rattle.roc_server_groups.proofs.Stands.{group_found, group_refs_same}
 
 -- a group that writes a cell uses it
 write_uses : (e : StartedGroup) (c : Cell) → uses_cell c e ≡ false → do_write e.cells c ≡ false
@@ -68,14 +69,14 @@ module _ (decided newly : List TxnId) where
     unused rest true w h = ap (λ x. x || rest) (sym h)
     unused rest false w h = refl
 
-    held_from : (es : List StartedGroup) → AreFound whole es → list_any holds (undecided decided (group_refs_of c es)) ≡ held es
+    held_from : (es : List StartedGroup) → AreFound whole es → list_any holds (undecided_refs decided (group_refs_of c es)) ≡ held es
     held_from [] h = refl
     held_from (e ∷ es) h = go (uses_cell c e) refl (held_from es h.1)
       where
-        go : (u : Bool) → uses_cell c e ≡ u → list_any holds (undecided decided (group_refs_of c es)) ≡ held es
-            → list_any holds (undecided decided (if u then group_ref_of e ∷ group_refs_of c es else group_refs_of c es)) ≡ held (e ∷ es)
+        go : (u : Bool) → uses_cell c e ≡ u → list_any holds (undecided_refs decided (group_refs_of c es)) ≡ held es
+            → list_any holds (undecided_refs decided (if u then group_ref_of e ∷ group_refs_of c es else group_refs_of c es)) ≡ held (e ∷ es)
         go true u ih =
-            used (group_ref_of e) (undecided decided (group_refs_of c es)) (held es) (is_listed is_txn decided e.id) (is_listed is_txn newly e.id) (do_write e.cells c)
+            used (group_ref_of e) (undecided_refs decided (group_refs_of c es)) (held es) (is_listed is_txn decided e.id) (is_listed is_txn newly e.id) (do_write e.cells c)
             (ap (λ o. not (is_listed is_txn newly e.id) && writes_cell c o) h.0) ih
         go false u ih = ih ∙ unused (held es) (not (decided_now e.id)) (do_write e.cells c) (write_uses e c u)
 
@@ -133,5 +134,5 @@ module _ (k : ServerData) (change : Change) (p : IsPlanned k change) where
       let u = untouched_by k change in
       (λ i. group_refs_at c (sym u.index i))
       ∙ (planned_sound k change p).right.index c
-      ∙ (λ i. undecided (u.decided i) (group_refs_of c was.started.groups))
-      ∙ ap (undecided k.table.decided) (sym (group_refs_same c was.started.groups k.started.groups (same_by k change p)))
+      ∙ (λ i. undecided_refs (u.decided i) (group_refs_of c was.started.groups))
+      ∙ ap (undecided_refs k.table.decided) (sym (group_refs_same c was.started.groups k.started.groups (same_by k change p)))

@@ -33,7 +33,7 @@ use Rattle.roc_server.specs.Inner.Answering.{decided_then, entered, is_held_up, 
 use Rattle.roc_server.specs.Inner.Planned.{after, unlearnt, AreListsPlanned, IsPlanned, IsSettledPlanned}
 use Rattle.roc_server.specs.Inner.Settled.{links_settled}
 use Rattle.roc_server.specs.Inner.ServerData.{IsConsistent}
-use Rattle.roc_server.proofs.IndexSteps.{filter_all}
+use Rattle.roc_server_groups.proofs.IndexSteps.{filter_all}
 use Rattle.roc_server.proofs.KeptLists.{among_more}
 use Rattle.roc_server.proofs.LeftSteps.{left_decide, links_left}
 use Rattle.roc_server.proofs.MarkedLinks.{still_decided}

@@ -15,8 +15,9 @@ use Rattle.roc_server.specs.declared.server_data.ServerData.{ServerData}
 use Rattle.std.specs.List.{AllByRecursion, flat_map}
 use Rattle.roc_base.proofs.Ids.{none_rise, unlisted_none}
 use Rattle.roc_step.specs.Waits.{Waiting, none_waiting}
-use Rattle.roc_server.specs.Inner.Indexed.{IsIndexOf}
-use Rattle.roc_server.specs.Inner.ServerData.{IsConsistent, is_left, is_same_group}
+use Rattle.roc_server_groups.specs.Indexed.{IsIndexOf}
+use Rattle.roc_server.specs.Inner.ServerData.{IsConsistent, is_left}
+use Rattle.roc_server_groups.specs.Groups.{is_same_group}
 
 none_decided : (t : TxnId) → ¬ IsDecided [] t
 none_decided t d = false≢true d.own

@@ -37,22 +37,23 @@ use Rattle.roc_step.specs.Lists.{is_missing, missing_from}
 use Rattle.roc_step.specs.State.{is_here, unrun, ServerState}
 use Rattle.roc_server.specs.Inner.Forgetting.{IsOverOf}
 use Rattle.roc_server.specs.Inner.Over.{AreOver}
-use Rattle.roc_server.specs.Inner.Indexed.{undecided, AreGroupRefsOf, IsIndexOf}
+use Rattle.roc_server_groups.specs.Indexed.{undecided_refs, AreGroupRefsOf, IsIndexOf}
 use Rattle.roc_server.specs.Inner.Planned.{unlearnt, with_lists, AreListsPlanned}
-use Rattle.roc_server.specs.Inner.ServerData.{state_of, is_left, AreSameGroups, IsRight}
+use Rattle.roc_server.specs.Inner.ServerData.{state_of, is_left, IsRight}
+use Rattle.roc_server_groups.specs.Groups.{AreSameGroups}
 use Rattle.roc_server.specs.Inner.Taught.{KeepsFound}
-use Rattle.roc_server.proofs.IndexSteps.{index_decided, indexed_group_refs}
+use Rattle.roc_server_groups.proofs.IndexSteps.{index_decided, indexed_group_refs}
 use Rattle.roc_server.proofs.LeftOut.{missing_of, missing_unknown}
 use Rattle.roc_server.proofs.MissingSteps.{filter_alike}
-use Rattle.roc_server.proofs.SameGroups.{once_same, here_same}
-use Rattle.roc_server.proofs.Stands.{group_refs_same}
+use Rattle.roc_server_groups.proofs.SameGroups.{once_same, here_same}
+use Rattle.roc_server_groups.proofs.Stands.{group_refs_same}
 use Rattle.roc_server.proofs.Undone.{cells_beside}
 
 -- the index is right for the groups that ran, too
 pub refs_ran : (was k : ServerData) → IsRight was → AreSameGroups was.started.groups k.started.groups → k.index ≡ was.index → k.table.decided ≡ was.table.decided → AreGroupRefsOf k.started.groups k.index
 refs_ran was k r groups same decided =
     let index : IsIndexOf k.index k.table.decided k.started.groups =
-    λ c. ap (λ index. group_refs_at c index) same ∙ r.index c ∙ (λ i. undecided (sym decided i) (sym (group_refs_same c was.started.groups k.started.groups groups) i)) in
+    λ c. ap (λ index. group_refs_at c index) same ∙ r.index c ∙ (λ i. undecided_refs (sym decided i) (sym (group_refs_same c was.started.groups k.started.groups groups) i)) in
     indexed_group_refs k.index k.table.decided k.started.groups index
 
 -- what is listed among components, old and new

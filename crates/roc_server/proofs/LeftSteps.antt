@@ -1,5 +1,5 @@
 -- What is left of lists once some of their transactions are forgotten
-use Rattle.std.proofs.Common.{◌≡◌, Bool, not, List, map, filter, sym, subst, ◌∙◌}
+use Rattle.std.proofs.Common.{◌≡◌, Bool, not, List, map, filter, sym, subst}
 use Rattle.std.proofs.lemmas.Bool.{not-true, not_from_false}
 use Rattle.roc_sequence.specs.Places.{is_listed, IsListed}
 use Rattle.roc_sequence.proofs.Filtered.{from_listed_filter, listed_filter}

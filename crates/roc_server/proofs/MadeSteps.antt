@@ -1,5 +1,5 @@
 -- What was made ahead for a message, and what comes of it
-use Rattle.std.proofs.Common.{◌≡◌, ◌++◌, Bool, true, false, if◌then◌else◌, List, Vec, [], Option, Some, None, Result, Ok, Err, IsSome, IsTrue, IfOk, IfSome, OnOk, OnErr, refl, sym, ap, subst, ◌∙◌, inl, inr}
+use Rattle.std.proofs.Common.{◌≡◌, ◌++◌, Bool, true, false, if◌then◌else◌, List, Vec, [], Option, Some, None, Result, Ok, Err, IsSome, IsTrue, IfSome, OnOk, OnErr, refl, sym, ap, subst, ◌∙◌, inl, inr}
 use Rattle.std.proofs.lemmas.Bool.{false≢true}
 use Rattle.std.proofs.lemmas.Option.{none-some}
 use Rattle.std.specs.Option.{option_map}
@@ -23,7 +23,7 @@ use Rattle.roc_server.specs.declared.planned.Planned.{Planned}
 use Rattle.roc_server.specs.Inner.Answering.{read_step, PlansReads}
 use Rattle.roc_server.specs.Inner.Held.{kept_before, made_ahead, made_of, reads_then, serving, viewing_of, viewing_then, IsHeld, IsServed}
 use Rattle.roc_server.specs.Inner.Planned.{after, before, rolled, IsPlanned}
-use Rattle.roc_server.specs.Inner.ServerData.{state_of, IsConsistent}
+use Rattle.roc_server.specs.Inner.ServerData.{IsConsistent}
 use Rattle.roc_step.specs.Reads.{is_taken, reads_behind, with_accesses, AnswersReads, ReadStep}
 use Rattle.roc_step.specs.Runs.{accesses_of}
 use Rattle.roc_server.specs.State.{MadeAhead}

@@ -28,7 +28,7 @@ use Rattle.roc_step.specs.Lists.{is_done, is_missing, links_of, missing_after}
 use Rattle.roc_step.specs.State.{is_here, ServerState}
 use Rattle.roc_server.specs.Inner.ServerData.{state_of, IsRight}
 use Rattle.roc_server.specs.Inner.Taught.{asked_by}
-use Rattle.roc_server.proofs.IndexSteps.{filter_both}
+use Rattle.roc_server_groups.proofs.IndexSteps.{filter_both}
 use Rattle.roc_server.proofs.LeftOut.{missing_of_news}
 
 -- tests that agree on what is there

@@ -19,7 +19,7 @@ use Rattle.roc_step.specs.declared.started.StartedGroup.{StartedGroup}
 use Rattle.roc_step.specs.Forgets.{forget, is_over, over, without}
 use Rattle.roc_server.specs.Inner.Forgetting.{IsOverOf}
 use Rattle.roc_server.specs.Inner.ServerData.{state_of, IsConsistent}
-use Rattle.roc_server.proofs.IndexSteps.{filter_all}
+use Rattle.roc_server_groups.proofs.IndexSteps.{filter_all}
 use Rattle.roc_server.proofs.SomeLeft.{member_some}
 
 pub no_ids : (ids : List TxnId) (none : Bool) → none ≡ (length ids == 0) → none ≡ true → ids ≡ []

@@ -22,15 +22,15 @@ use Rattle.roc_server.specs.declared.planned.Change.TheVariants.{Nothing, Asker,
 use Rattle.roc_server.specs.declared.server_data.ServerData.{ServerData}
 use Rattle.roc_step.specs.declared.started.StartedGroup.{StartedGroup}
 use Rattle.roc_step.specs.Fits.{AreGroupsOf}
-use Rattle.roc_server.specs.Inner.Indexed.{group_refs_of, undecided, IsIndexOf}
+use Rattle.roc_server_groups.specs.Indexed.{group_refs_of, undecided_refs, IsIndexOf}
 use Rattle.roc_server.specs.Inner.Held.{kept_before, IsHeld}
 use Rattle.roc_server.specs.Inner.Planned.{before, IsPlanned}
-use Rattle.roc_server.specs.Inner.ServerData.{is_same_group, AreSameGroups}
+use Rattle.roc_server_groups.specs.Groups.{is_same_group, AreSameGroups}
 use Rattle.roc_step.specs.Start.{is_user, users}
 use Rattle.roc_step.specs.State.{unrun}
 use Rattle.roc_server.proofs.MadeSteps.{held_sound}
-use Rattle.roc_server.proofs.SameGroups.{fits_same, once_same}
-use Rattle.roc_server.proofs.Stands.{group_refs_same}
+use Rattle.roc_server_groups.proofs.SameGroups.{fits_same, once_same}
+use Rattle.roc_server_groups.proofs.Stands.{group_refs_same}
 
 -- ---- what no plan touches before it is done
 
@@ -78,8 +78,8 @@ index_now k ahead h c =
     let u = untouched k ahead in
     (λ i. group_refs_at c (sym u.index i))
     ∙ (held_sound k ahead h).right.index c
-    ∙ (λ i. undecided (u.decided i) (group_refs_of c was.started.groups))
-    ∙ ap (undecided k.table.decided) (sym (group_refs_same c was.started.groups k.started.groups (same_before k ahead h)))
+    ∙ (λ i. undecided_refs (u.decided i) (group_refs_of c was.started.groups))
+    ∙ ap (undecided_refs k.table.decided) (sym (group_refs_same c was.started.groups k.started.groups (same_before k ahead h)))
 
 -- ---- what is read of them
 

@@ -24,7 +24,7 @@ use Rattle.roc_server.specs.declared.planned.Change.{Change}
 use Rattle.roc_server.specs.declared.planned.Change.TheVariants.{Nothing, Asker, Group, Lists, Marks, Settled}
 use Rattle.roc_server.specs.declared.planned.Settlement.{Settlement}
 use Rattle.roc_server.specs.declared.server_data.ServerData.{ServerData}
-use Rattle.roc_server.specs.declared.runs.Earlier.{Earlier}
+use Rattle.roc_server_groups.specs.declared.runs.Earlier.{Earlier}
 use Rattle.roc_server.specs.declared.settled.Settling.{Settling}
 use Rattle.roc_step.specs.Below.{is_ended, raised}
 use Rattle.roc_step.specs.Forgets.{forget, forgetting}
@@ -34,15 +34,16 @@ use Rattle.roc_step.specs.State.{hearing, is_here, refused, unrun, ServerState}
 use Rattle.roc_step.specs.Step.{links_after}
 use Rattle.roc_server.specs.Inner.Shown.{ShowsStep}
 use Rattle.roc_server.specs.Inner.Over.{AreOver}
-use Rattle.roc_server.specs.Inner.Runs.{restored}
+use Rattle.roc_server_groups.specs.Runs.{restored}
 use Rattle.roc_server.specs.Inner.Planned.{after, unsettled, with_settled, IsPlannedFrom}
-use Rattle.roc_server.specs.Inner.ServerData.{state_of, holding, IsConsistent, IsSame}
+use Rattle.roc_server.specs.Inner.ServerData.{state_of, IsConsistent, IsSame}
+use Rattle.roc_server_groups.specs.Groups.{holding}
 use Rattle.roc_server.specs.Inner.Settled.{links_settled, HasRoomToSettle, IsHearing, IsSettling, Settles, SettlesRuns}
 use Rattle.roc_server.specs.Inner.Taught.{KeepsBesideRuns, KeepsPlans, RunsDecided}
 use Rattle.roc_server.proofs.Alike.{alike_same}
 use Rattle.roc_server.proofs.OneSettled.{one_listed}
 use Rattle.roc_step.proofs.Raised.{ended_still}
-use Rattle.roc_server.proofs.SameGroups.{fits_same, fits_some, here_same}
+use Rattle.roc_server_groups.proofs.SameGroups.{fits_same, fits_some, here_same}
 use Rattle.roc_server.proofs.TaughtParts.{back_to}
 use Rattle.roc_server.proofs.Undone.{besides_alike}
 

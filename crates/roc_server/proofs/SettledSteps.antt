@@ -33,16 +33,16 @@ use Rattle.roc_server.specs.declared.server_data.ServerData.{ServerData}
 use Rattle.roc_step.specs.Below.{is_ended}
 use Rattle.roc_server.specs.Inner.Forgetting.{IsOverOf}
 use Rattle.roc_server.specs.Inner.Over.{AreOver, TakenComponents}
-use Rattle.roc_server.specs.Inner.Indexed.{AreGroupRefsOf, AreOut}
+use Rattle.roc_server_groups.specs.Indexed.{AreGroupRefsOf, AreOut}
 use Rattle.roc_server.specs.Inner.Planned.{unsettled, with_settled, AreMarksPlanned, IsSettledPlanned}
 use Rattle.roc_server.specs.Inner.ServerData.{state_of, is_left, IsRight}
 use Rattle.roc_server.specs.Inner.Settled.{links_settled}
-use Rattle.roc_server.proofs.IndexSteps.{filter_both, index_decided}
+use Rattle.roc_server_groups.proofs.IndexSteps.{filter_both, index_decided}
 use Rattle.roc_server.proofs.KeptLists.{among_more, more_among, once_more, refs_ran, some_more}
 use Rattle.roc_server.proofs.MarkedLinks.{marked_known, still_decided}
 use Rattle.roc_server.proofs.OneSettled as one
 use Rattle.roc_step.proofs.Raised.{ended_still}
-use Rattle.roc_server.proofs.SameGroups.{here_same, once_same}
+use Rattle.roc_server_groups.proofs.SameGroups.{here_same, once_same}
 use Rattle.roc_server.proofs.SomeLeft.{any_some, members}
 
 -- ---- watermarks

@@ -42,14 +42,15 @@ use Rattle.roc_step.specs.Waits.{was_asked_for}
 use Rattle.roc_step.proofs.Skipped.{left_still}
 use Rattle.roc_server.specs.declared.planned.Change.TheVariants.{Group}
 use Rattle.roc_server.specs.declared.planned.Planned.{Planned}
-use Rattle.roc_server.specs.Inner.Indexed.{group_ref_of, HasRoomFor, IsIndexOf, IsAddedAt}
-use Rattle.roc_server.specs.Inner.Keyed.{Entered}
+use Rattle.roc_server_groups.specs.Indexed.{group_ref_of, HasRoomAtCells, IsIndexOf, IsAddedAt}
+use Rattle.roc_server_groups.specs.Entered.{Entered}
 use Rattle.roc_server.specs.Inner.Planned.{after, rolled, IsGroupPlanned, IsPlannedFrom}
-use Rattle.roc_server.specs.Inner.ServerData.{state_of, IsConsistent, IsRight, IsSame, is_left, is_same_group}
+use Rattle.roc_server.specs.Inner.ServerData.{state_of, IsConsistent, IsRight, IsSame, is_left}
+use Rattle.roc_server_groups.specs.Groups.{is_same_group}
 use Rattle.roc_server.specs.Inner.Starts.{first_reason, start_reasons, start_fault, IsNewGroup, KeepsBeside, StartTaken, StartsNew, TellsStart}
 use Rattle.roc_step.specs.State.{first_answer, is_group, find_group, ServerState, ServerStep, is_here}
-use Rattle.roc_server.proofs.SameGroups.{same_own}
-use Rattle.roc_server.proofs.IndexSteps.{index_started, none_yet}
+use Rattle.roc_server_groups.proofs.SameGroups.{same_own}
+use Rattle.roc_server_groups.proofs.IndexSteps.{index_started, none_yet}
 use Rattle.roc_server.proofs.Undone.{cells_aside, tried_in_vain}
 
 pub nothing_led : (known : List KnownList) → AreLedTo known [] []
@@ -240,7 +241,7 @@ start_unmet k e p c = none_yet k.index k.table.decided k.started.groups e p.soun
 -- it was planned, and there is room for it
 pub group_planned : (plan : Plan) (shard : Shard) (k mid : ServerData) (noted : Held) (id : TxnId) (c : GroupCall) (e : StartedGroup) → noted.saved ≡ Some k.rows.store → mid.rows.saved ≡ noted.saved
     → IsNewGroup plan shard (record k { rows = noted }) mid id c e → KeepsBeside (record k { rows = noted }) mid → IsConsistent k → find_group id c.group k.started.groups ≡ None → is_known k.table.known id ≡ false
-    → 0 < mid.started.spare → HasRoomFor e.cells mid.index → IsPlannedFrom k mid (Group e)
+    → 0 < mid.started.spare → HasRoomAtCells e.cells mid.index → IsPlannedFrom k mid (Group e)
 group_planned plan shard k mid noted id c e saved kept n b sound absent unknown place room =
     let same : IsSame k (record mid { rows = rolled mid.rows }) = tried_in_vain k mid noted (rolled mid.rows) saved kept refl b sound in
     let own : e.id ≡ id = ap (λ (g : StartedGroup). g.id) n.is in

@@ -37,8 +37,9 @@ use Rattle.roc_step.specs.State.{is_here, unrun}
 use Rattle.roc_server.specs.declared.planned.Lesson.{Lesson}
 use Rattle.roc_server.specs.Inner.Over.{AreOver}
 use Rattle.roc_server.specs.Inner.Planned.{front, unlearnt, with_lists, AreListsPlanned}
-use Rattle.roc_server.specs.Inner.Runs.{restored}
-use Rattle.roc_server.specs.Inner.ServerData.{is_same_group, state_of, holding, AreSameGroups, IsConsistent, IsSame}
+use Rattle.roc_server_groups.specs.Runs.{restored}
+use Rattle.roc_server_groups.specs.Groups.{is_same_group, holding, AreSameGroups}
+use Rattle.roc_server.specs.Inner.ServerData.{state_of, IsConsistent, IsSame}
 use Rattle.roc_server.specs.Inner.Taught.{all_told, asked_by, Acts, AreIdsSame, AreLearnt, Finds, HasRoomToKeep, KeepsBesideRuns, Learns, RunsDecided, Taken}
 use Rattle.roc_server.proofs.Alike.{alike_same}
 use Rattle.roc_server.proofs.MissingSteps.{missing_is}

@@ -15,11 +15,12 @@ use Rattle.roc_step.specs.Runs.{commitok, commitok_of, take_all}
 use Rattle.roc_step.specs.New.{AreNewTaken}
 use Rattle.roc_step.specs.Asking.{knowns_for, fetch_from}
 use Rattle.roc_step.specs.Lists.{links_of, lists_after, missing_after, taught}
-use Rattle.roc_server.specs.Inner.ServerData.{state_of, AreSameGroups, IsConsistent}
+use Rattle.roc_server.specs.Inner.ServerData.{state_of, IsConsistent}
+use Rattle.roc_server_groups.specs.Groups.{AreSameGroups}
 use Rattle.roc_server.specs.Inner.Taught.{own_again, with_own, Taken, Teaches}
 use Rattle.roc_step.specs.State.{is_here, ServerState, ServerStep}
 use Rattle.roc_server.specs.Inner.Shown.{ShowsStep}
-use Rattle.roc_server.proofs.SameGroups.{fits_same, fits_some, here_same}
+use Rattle.roc_server_groups.proofs.SameGroups.{fits_same, fits_some, here_same}
 
 module _ (plan : Plan) (shard : Shard) (old : ServerData) (state : ServerState) (before after : Collected) (news : List KnownList) (again : Option TxnId) (sound : IsConsistent old) (h : Taken plan shard old state before after news again) where
   abbrev s : ServerState

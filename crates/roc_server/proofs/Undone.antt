@@ -18,9 +18,9 @@ use Rattle.roc_server_table.proofs.Unlearnt.{known_has, known_itself, unknown_be
 use Rattle.roc_server.specs.declared.planned.Lesson.{Lesson}
 use Rattle.roc_server.specs.declared.planned.Settlement.{Settlement}
 use Rattle.roc_server.specs.declared.server_data.ServerData.{ServerData}
-use Rattle.roc_server.specs.Inner.Keyed.{Entered}
+use Rattle.roc_server_groups.specs.Entered.{Entered}
 use Rattle.roc_server.specs.Inner.Planned.{unlearnt, unsettled, AreListsPlanned}
-use Rattle.roc_server.specs.Inner.Runs.{restored}
+use Rattle.roc_server_groups.specs.Runs.{restored}
 use Rattle.roc_server.specs.Inner.ServerData.{IsConsistent, IsRight, IsSame}
 use Rattle.roc_server.specs.Inner.Starts.{KeepsBeside}
 use Rattle.roc_server.specs.Inner.Taught.{KeepsBesideRuns}

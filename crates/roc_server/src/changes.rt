@@ -14,13 +14,12 @@ ghost use Rattle.roc_server.specs.Inner.Settled.{links_settled};
 
 use crate::StartedGroup;
 use crate::found::keep_found;
-use crate::indexed::{add_group, take_out};
 use crate::planned::{Change, Heard, Lesson, Settlement};
-use crate::runs::put_back;
 use crate::server_data::ServerData;
 use crate::settled::Settling;
 use roc_await::{Asker, Waits};
 use roc_base::TxnId;
+use roc_server_groups::{add_group, put_back, take_out};
 use roc_server_table::ListTable;
 
 // What was planned is done.

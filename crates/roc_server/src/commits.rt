@@ -14,7 +14,6 @@ ghost use Rattle.roc_server.specs.Inner.Taught.{Commits, Knows};
 ghost use Rattle.roc_step.specs.Lists.{commit_refusal, known_refusal};
 
 use crate::Handled;
-use crate::groups::is_here;
 use crate::marks::Marks;
 use crate::missing::was_asked_for;
 use crate::planned::{Planned, nothing};
@@ -24,6 +23,7 @@ use roc_base::{Edges, NoMemory, Shard, TxnId};
 use roc_depgraph::KnownList;
 use roc_msg::{Outbox, Reason};
 use roc_plan::Plan;
+use roc_server_groups::is_here;
 use roc_server_lists::{commit_differs, is_unlike, news_of_commit, news_of_known};
 use roc_server_table::ListTable;
 use std::alloc::Global;

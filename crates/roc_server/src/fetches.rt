@@ -13,13 +13,13 @@ ghost use Rattle.roc_step.specs.Lists.{after_fetch};
 ghost use Rattle.roc_server.specs.Inner.Shown.{ShowsStep};
 
 use crate::Handled;
-use crate::groups::is_here;
 use crate::marks::Marks;
 use crate::planned::{Change, Planned, nothing};
 use crate::server_data::ServerData;
 use roc_await::Asker;
 use roc_base::{NoMemory, Node, Shard, TxnId};
 use roc_msg::{Msg, Outbox, Reason};
+use roc_server_groups::is_here;
 use roc_server_lists::send_known;
 
 // Plans the answer to a fetch, or ignores it.

@@ -10,11 +10,10 @@ ghost use Rattle.roc_sequence.specs.Places.{is_listed};
 ghost use Rattle.roc_server_index.specs.GroupRefs.{group_refs_at};
 ghost use Rattle.roc_step.specs.Fits.{AreReadsOf, IsReadOf};
 ghost use Rattle.roc_server.specs.Inner.Answering.{decided_then, entered, is_free_then, is_held_up, newly, started_with, writes_one};
-ghost use Rattle.roc_server.specs.Inner.Indexed.{holds_at};
+ghost use Rattle.roc_server.specs.Inner.HoldsUp.{holds_at};
 ghost use Rattle.roc_server.specs.Inner.Planned.{IsPlanned};
 ghost use Rattle.roc_step.specs.Reads.{read_call};
 
-use crate::groups::find_group;
 use crate::planned::Change;
 use crate::server_data::ServerData;
 use crate::{KeptRead, StartedGroup};
@@ -24,6 +23,7 @@ use roc_plan::laws::views_are_apart;
 use roc_plan::{Known, Plan};
 use roc_rows::Cell;
 use roc_sequence::Sequence;
+use roc_server_groups::find_group;
 use roc_server_index::GroupRef;
 use std::alloc::Global;
 

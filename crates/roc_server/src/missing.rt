@@ -9,13 +9,12 @@ ghost use Rattle.roc_server.specs.Inner.Taught.{asked_by, is_done_with, AreIdsSa
 ghost use Rattle.roc_step.specs.Lists.{is_missing};
 ghost use Rattle.roc_step.specs.State.{ServerState};
 
-use crate::groups::is_here;
 use crate::marks::Marks;
 use crate::server_data::ServerData;
-use crate::started_groups::StartedGroups;
 use roc_await::{OpenFetch, Waits};
 use roc_base::{Edge, NoMemory, Shard, TxnId};
 use roc_depgraph::is_among_rising;
+use roc_server_groups::{StartedGroups, is_here};
 use roc_server_table::ListTable;
 use std::alloc::Global;
 

@@ -4,12 +4,12 @@ ghost use Rattle.roc_server.specs.declared.planned.Change.TheVariants.{Nothing};
 
 use crate::found::Found;
 use crate::marks::Marks;
-use crate::runs::Earlier;
 use crate::settled::Settling;
 use crate::{Handled, StartedGroup};
 use roc_await::Asker;
 use roc_base::TxnId;
 use roc_depgraph::KnownList;
+use roc_server_groups::Earlier;
 
 // Lists that are taught: they are learnt, and behind a savepoint of the cells what they decide has run.
 #[derive(Drop)]

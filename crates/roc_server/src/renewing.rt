@@ -5,9 +5,9 @@ ghost use Rattle.roc_server.specs.Inner.ServerData.{state_of, IsConsistent};
 ghost use Rattle.roc_step.specs.Renewed.{renewed};
 
 use crate::server_data::ServerData;
-use crate::started_groups::StartedGroups;
 use crate::taken::Taken;
 use roc_await::Waits;
+use roc_server_groups::StartedGroups;
 use roc_server_index::Index;
 use roc_server_table::ListTable;
 use std::alloc::Global;

@@ -26,8 +26,6 @@ ghost use Rattle.roc_server.specs.declared.server_data.ServerData.{ServerData};
 use crate::ahead::Ahead;
 use crate::first::first_rows;
 use crate::handling::{let_go, ready, take_ready};
-use crate::lent_groups::LentGroups;
-use crate::looks::{Starting, entries};
 use crate::planned::Change;
 use crate::renewing::renew;
 use crate::server_data::ServerData;
@@ -40,6 +38,7 @@ use roc_group::Access;
 use roc_msg::{Msg, NodeFault, Outbox};
 use roc_plan::{Class, Plan};
 use roc_rows::{Cell, Rows};
+use roc_server_groups::{Starting, entries};
 use roc_server_lists::send_fetches;
 use std::alloc::Global;
 use std::marker::Model;
@@ -251,8 +250,15 @@ impl Server {
             id,
             immediate: is_immediate(class),
         };
-        let groups = LentGroups::new(&self.kept);
-        entries(self.alloc, plan, &groups, starting, cells, steps)
+        entries(
+            self.alloc,
+            plan,
+            &self.kept.started,
+            &self.kept.index,
+            starting,
+            cells,
+            steps,
+        )
     }
 
     /// The buffered groups of undecided transactions, in order of arrival, each as its transaction and the cells that it uses: what

@@ -1,9 +1,9 @@
 //! What a server keeps.
 use crate::marks::Marks;
-use crate::started_groups::StartedGroups;
 use crate::taken::Taken;
 use roc_await::Waits;
 use roc_rows::Rows;
+use roc_server_groups::StartedGroups;
 use roc_server_index::Index;
 use roc_server_table::ListTable;
 use std::alloc::Global;

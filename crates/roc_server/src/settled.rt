@@ -1,26 +1,24 @@
 //! Watermarks, and transactions for which nobody has to wait any more.
 ghost use Rattle.std.specs.Prelude.{◌≡◌, ◌≤◌, ◌∷◌, [], length, if◌then◌else◌, IfOk, OnOk, OnErr};
 ghost use Rattle.roc_base.specs.TxnId.{is_txn};
-ghost use Rattle.roc_msg.specs.Outbox.{HoldsSame};
 ghost use Rattle.roc_sequence.specs.Places.{IsListed, NoneTwice};
 ghost use Rattle.roc_step.specs.Below.{is_ended};
 ghost use Rattle.roc_step.specs.Fits.{AreGroupsOf};
 ghost use Rattle.roc_step.specs.New.{AreNewTaken};
 ghost use Rattle.roc_server.specs.Inner.Planned.{after, IsPlannedFrom, IsSettledFrom};
-ghost use Rattle.roc_server.specs.Inner.Runs.{restored};
-ghost use Rattle.roc_server.specs.Inner.ServerData.{is_same_group, IsConsistent, IsSame};
+ghost use Rattle.roc_server_groups.specs.Runs.{restored};
+ghost use Rattle.roc_server_groups.specs.Groups.{is_same_group};
+ghost use Rattle.roc_server.specs.Inner.ServerData.{IsConsistent, IsSame};
 ghost use Rattle.roc_server.specs.Inner.Settled.{links_settled, HasRoomToSettle, IsHearing, IsSettling, Settles, SettlesRuns};
 ghost use Rattle.roc_server.specs.Inner.Taught.{KeepsBesideRuns};
 ghost use Rattle.roc_step.specs.declared.handled.Handled.TheVariants.{Done};
 ghost use Rattle.roc_server.specs.declared.planned.Change.TheVariants.{Settled};
 
 use crate::Handled;
-use crate::commitoks::send_commitoks;
 use crate::found::find_taken;
 use crate::marks::Marks;
 use crate::missing::was_asked_for;
 use crate::planned::{Change, Heard, Planned, Settlement};
-use crate::runs::{Earlier, put_back};
 use crate::server_data::ServerData;
 use crate::taken::{over_among, push_members};
 use crate::teach::run_decided;
@@ -28,6 +26,7 @@ use roc_base::{NoMemory, Shard, TxnId};
 use roc_msg::Outbox;
 use roc_plan::Plan;
 use roc_sequence::Sequence;
+use roc_server_groups::{Earlier, put_back, send_commitoks};
 use roc_server_table::ListTable;
 use std::alloc::Global;
 

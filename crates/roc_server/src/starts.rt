@@ -5,7 +5,7 @@ ghost use Rattle.roc_msg.specs.Outbox.{HasSent, HasRun, HoldsSame};
 ghost use Rattle.roc_group.specs.GroupRun.{call};
 ghost use Rattle.roc_plan.specs.Groups.{groups_of, is_immediate_of};
 ghost use Rattle.roc_step.specs.Fits.{IsCallOf, AreGroupsOf};
-ghost use Rattle.roc_server.specs.Inner.Indexed.{HasRoomFor};
+ghost use Rattle.roc_server_groups.specs.Indexed.{HasRoomAtCells};
 ghost use Rattle.roc_server.specs.Inner.Planned.{after, IsPlannedFrom};
 ghost use Rattle.roc_server.specs.Inner.ServerData.{state_of, asked, IsConsistent, IsSame};
 ghost use Rattle.roc_server.specs.Inner.Starts.{IsNewGroup, KeepsBeside, StartTaken, StartsNew, TellsStart};
@@ -14,16 +14,14 @@ ghost use Rattle.roc_server.specs.Inner.Starts.{start_fault};
 ghost use Rattle.roc_step.specs.Start.{has_counts, start_refusal, startok_of};
 ghost use Rattle.roc_step.specs.State.{find_group};
 
-use crate::groups::{differs, find_group};
-use crate::indexed::reserve_group;
 use crate::planned::{Change, Planned, nothing};
-use crate::ran::note_group;
 use crate::server_data::ServerData;
-use crate::started_now::{is_immediate, new_group};
+use crate::started_now::new_group;
 use crate::{Handled, StartedGroup};
 use roc_base::{NoMemory, Node, Shard, TxnId};
 use roc_msg::{Msg, Outbox, Reason};
 use roc_plan::{Known, Plan};
+use roc_server_groups::{differs, find_group, is_immediate, note_group, reserve_group};
 use std::alloc::Global;
 
 // A group that is asked to start.
@@ -110,7 +108,7 @@ fn try_start(
     ensures new { IfOk result (λ e. IsNewGroup plan.now shard kept.old kept.new request.id (asked request) e) }
     ensures told { IfOk result (λ e. TellsStart plan.now shard e sends.old sends.new) }
     ensures place { OnOk result (0 < kept.new.started.spare) }
-    ensures room { IfOk result (λ e. HasRoomFor e.cells kept.new.index) }
+    ensures room { IfOk result (λ e. HasRoomAtCells e.cells kept.new.index) }
     ensures beside { KeepsBeside kept.old kept.new }
     ensures saved { kept.new.rows.saved ≡ kept.old.rows.saved }
 {

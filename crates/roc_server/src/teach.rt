@@ -8,27 +8,27 @@ ghost use Rattle.roc_sequence.specs.Places.{NoneTwice};
 ghost use Rattle.roc_step.specs.Fits.{AreGroupsOf};
 ghost use Rattle.roc_step.specs.Forgets.{over};
 ghost use Rattle.roc_server.specs.Inner.Over.{AreOver};
-ghost use Rattle.roc_server.specs.Inner.Runs.{restored};
+ghost use Rattle.roc_server_groups.specs.Runs.{restored};
 ghost use Rattle.roc_step.specs.declared.handled.Handled.TheVariants.{Done};
 ghost use Rattle.roc_server.specs.declared.planned.Change.TheVariants.{Lists};
 ghost use Rattle.roc_server.specs.Inner.Planned.{after, IsPlannedFrom};
-ghost use Rattle.roc_server.specs.Inner.ServerData.{is_same_group, IsConsistent, IsSame};
+ghost use Rattle.roc_server_groups.specs.Groups.{is_same_group};
+ghost use Rattle.roc_server.specs.Inner.ServerData.{IsConsistent, IsSame};
 ghost use Rattle.roc_server.specs.Inner.Taught.{all_told, own_again, Acts, AreIdsSame, Finds, KeepsBesideRuns, RunsDecided, Teaches};
 
 use crate::Handled;
-use crate::commitoks::{send_commitok, send_commitoks};
 use crate::found::{Found, find_all, make_room};
 use crate::learning::{Named, learn};
 use crate::planned::{Change, Lesson, Planned};
-use crate::ran::note_all;
-use crate::runs::{Earlier, put_back, run_all};
 use crate::server_data::ServerData;
-use crate::started_groups::StartedGroups;
 use roc_base::{NoMemory, Shard, TxnId};
 use roc_depgraph::KnownList;
 use roc_msg::Outbox;
 use roc_plan::Plan;
 use roc_rows::Rows;
+use roc_server_groups::{
+    Earlier, StartedGroups, note_all, put_back, run_all, send_commitok, send_commitoks,
+};
 use roc_server_lists::{send_fetches, tell_all};
 use std::alloc::Global;
 

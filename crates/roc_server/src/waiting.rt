@@ -6,10 +6,10 @@ ghost use Rattle.roc_step.specs.Waiting.{is_waiting, waiting_of};
 
 use crate::StartedGroup;
 use crate::server_data::ServerData;
-use crate::started_now::is_immediate;
 use roc_base::NoMemory;
 use roc_plan::Plan;
 use roc_sequence::Sequence;
+use roc_server_groups::is_immediate;
 use roc_server_table::ListTable;
 use roc_step::Waiting;
 use std::alloc::Global;

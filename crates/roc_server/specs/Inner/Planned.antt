@@ -17,7 +17,7 @@ use Rattle.roc_server.specs.declared.planned.Change.TheVariants.{Nothing, Asker,
 use Rattle.roc_server.specs.declared.planned.Heard.{Heard}
 use Rattle.roc_server.specs.declared.planned.Lesson.{Lesson}
 use Rattle.roc_server.specs.declared.planned.Settlement.{Settlement}
-use Rattle.roc_server.specs.declared.runs.Earlier.{Earlier}
+use Rattle.roc_server_groups.specs.declared.runs.Earlier.{Earlier}
 use Rattle.roc_server.specs.declared.settled.Settling.{Settling}
 use Rattle.roc_server.specs.declared.server_data.ServerData.{ServerData}
 use Rattle.roc_step.specs.declared.started.StartedGroup.{StartedGroup}
@@ -25,11 +25,12 @@ use Rattle.roc_step.specs.Below.{is_ended}
 use Rattle.roc_step.specs.Forgets.{forget}
 use Rattle.roc_step.specs.Lists.{missing_from}
 use Rattle.roc_step.specs.State.{find_group, ServerState}
-use Rattle.roc_server.specs.Inner.Indexed.{HasRoomFor}
+use Rattle.roc_server_groups.specs.Indexed.{HasRoomAtCells}
 use Rattle.roc_server.specs.Inner.Over.{AreOver}
-use Rattle.roc_server.specs.Inner.Runs.{restored}
+use Rattle.roc_server_groups.specs.Runs.{restored}
 use Rattle.roc_server.specs.Inner.Settled.{links_settled, HasRoomToSettle, IsSettling}
-use Rattle.roc_server.specs.Inner.ServerData.{state_of, AreSameGroups, IsConsistent}
+use Rattle.roc_server.specs.Inner.ServerData.{state_of, IsConsistent}
+use Rattle.roc_server_groups.specs.Groups.{AreSameGroups}
 use Rattle.roc_server.specs.Inner.Taught.{AreLearnt, HasRoomToKeep, KeepsBesideRuns}
 
 -- ---- before a change
@@ -106,7 +107,7 @@ pub record IsGroupPlanned (k : ServerData) (e : StartedGroup) : Type 0 where
   pub absent : find_group e.id e.group k.started.groups ≡ None
   pub unknown : is_known k.table.known e.id ≡ false
   pub place : 0 < k.started.spare
-  pub room : HasRoomFor e.cells k.index
+  pub room : HasRoomAtCells e.cells k.index
 
 pub record AreListsPlanned (k : ServerData) (l : Lesson) : Type 0 where
   pub sound : IsConsistent (unlearnt k l)

@@ -1,5 +1,5 @@
 -- What a server's fields hold, as the definitions see it
-use Rattle.std.specs.Prelude.{◌≡◌, ◌≢◌, ◌&&◌, not, Bool, false, List, [], map, filter}
+use Rattle.std.specs.Prelude.{◌≡◌, ◌≢◌, ◌&&◌, not, Bool, false, List, [], filter}
 use Rattle.std.specs.List.{AllByRecursion, flat_map}
 use Rattle.std.specs.List.Sorted.{IsStrictlySortedBy}
 use Rattle.roc_sequence.specs.Lists.{Has}
@@ -11,15 +11,14 @@ use Rattle.roc_base.specs.Edge.{Dependency}
 use Rattle.roc_depgraph.specs.Deps.{is_known, IsDecided}
 use Rattle.roc_step.specs.Waits.{was_asked_for}
 use Rattle.roc_group.specs.GroupRun.{GroupCall, call}
-use Rattle.roc_rows.specs.Store.{Store}
 use Rattle.roc_server.specs.declared.server_data.ServerData.{ServerData}
-use Rattle.roc_step.specs.declared.started.StartedGroup.{StartedGroup}
 use Rattle.roc_server.specs.declared.starts.Request.{Request}
 use Rattle.roc_step.specs.Links.{all_entries, AreLinksOf}
 use Rattle.roc_step.specs.Below.{is_ended}
 use Rattle.roc_step.specs.Forgets.{over}
-use Rattle.roc_step.specs.State.{is_group, is_here, unrun, ServerState}
-use Rattle.roc_server.specs.Inner.Indexed.{IsIndexOf}
+use Rattle.roc_step.specs.State.{is_here, ServerState}
+use Rattle.roc_server_groups.specs.Indexed.{IsIndexOf}
+use Rattle.roc_server_groups.specs.Groups.{is_same_group}
 
 abbrev pub state_of : Shard → ServerData → ServerState
 state_of shard k =
@@ -30,14 +29,6 @@ state_of shard k =
       lists = record { known = k.table.known; links = k.table.links; waiting = k.waits.waiting; taken = k.taken.components };
       below = k.marks;
     }
-
--- the same with these cells and groups
-abbrev pub holding : ServerState → Store → List StartedGroup → ServerState
-holding s store started = record s { store = store; started = started }
-
--- the two are the same group of one transaction
-abbrev pub is_same_group : StartedGroup → StartedGroup → Bool
-is_same_group a b = is_group a.id a.group b
 
 -- what an entry names is unknown, has no group here and was not asked for
 abbrev pub is_left : ServerData → Dependency → Bool
@@ -64,10 +55,6 @@ pub record IsRight (k : ServerData) : Type 0 where
 pub record IsConsistent (k : ServerData) : Type 0 where
   pub right : IsRight k
   pub none_over : over k.marks k.taken.components ≡ []
-
--- the same groups, whatever they gave
-abbrev pub AreSameGroups : List StartedGroup → List StartedGroup → Type 0
-AreSameGroups old new = map unrun new ≡ map unrun old
 
 -- the call that a request asks for
 abbrev pub asked : Request → GroupCall

@@ -24,7 +24,8 @@ use Rattle.roc_server.specs.Inner.Shown.{ShowsStep}
 use Rattle.roc_step.specs.Links.{without_links}
 use Rattle.roc_step.specs.New.{AreNewTaken}
 use Rattle.roc_server.specs.Inner.Over.{AreOver}
-use Rattle.roc_server.specs.Inner.ServerData.{state_of, holding, AreSameGroups}
+use Rattle.roc_server.specs.Inner.ServerData.{state_of}
+use Rattle.roc_server_groups.specs.Groups.{holding, AreSameGroups}
 use Rattle.roc_server.specs.Inner.Taught.{KeepsPlans}
 
 -- a watermark is to be heard

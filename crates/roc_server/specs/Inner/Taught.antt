@@ -33,8 +33,9 @@ use Rattle.roc_step.specs.Asking.{asked_of, fetch_from, knowns_for, open_after, 
 use Rattle.roc_step.specs.Links.{all_entries, least_naming}
 use Rattle.roc_step.specs.Lists.{is_done, links_of, is_missing, missing_after, lists_after, taught, commit_refusal, after_commit, known_refusal, after_known}
 use Rattle.roc_server_table.specs.Kept.{TableLists}
-use Rattle.roc_server.specs.Inner.Indexed.{AreOut}
-use Rattle.roc_server.specs.Inner.ServerData.{state_of, holding, AreSameGroups}
+use Rattle.roc_server_groups.specs.Indexed.{AreOut}
+use Rattle.roc_server.specs.Inner.ServerData.{state_of}
+use Rattle.roc_server_groups.specs.Groups.{holding, AreSameGroups}
 use Rattle.roc_step.specs.State.{is_here, ServerState, ServerStep}
 use Rattle.roc_step.specs.Step.{links_after}
 use Rattle.roc_server.specs.Inner.Shown.{ShowsStep}

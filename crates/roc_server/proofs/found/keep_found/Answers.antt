@@ -5,7 +5,7 @@ use Rattle.roc_base.specs.TxnId.{is_txn}
 use Rattle.roc_depgraph.specs.Closure.{IsRisingListOf}
 use Rattle.roc_step.specs.Asking.{open_after, waiting_after}
 use Rattle.roc_step.specs.New.{AreAllNew}
-use Rattle.roc_server.specs.Inner.Indexed.{AreOut}
+use Rattle.roc_server_groups.specs.Indexed.{AreOut}
 use Rattle.roc_server.proofs.TaughtParts.{on_done}
 use Rattle.roc_server.proofs.found.keep_found.Goals as goal
 

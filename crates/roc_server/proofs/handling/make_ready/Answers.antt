@@ -1,4 +1,4 @@
-use Rattle.std.proofs.Common.{◌≡◌, IfSome, IsOk, sym, subst}
+use Rattle.std.proofs.Common.{IfSome, IsOk, sym, subst}
 use Rattle.std.proofs.lemmas.Result.{IfOk-weaker, on_ok_weaker}
 use Rattle.std.specs.Option.{option_map}
 use Rattle.roc_msg.specs.Outbox.{HasRoomFor}

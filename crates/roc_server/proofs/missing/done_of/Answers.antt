@@ -3,7 +3,7 @@ use Rattle.roc_sequence.proofs.Fronts.{front_whole}
 use Rattle.roc_base.specs.declared.id.TxnId.{TxnId}
 use Rattle.roc_base.specs.Edge.{Dependency}
 use Rattle.roc_server.specs.Inner.Taught.{is_done_with}
-use Rattle.roc_server.proofs.Pairs.{passed_more, failed_more}
+use Rattle.roc_server_groups.proofs.Pairs.{passed_more, failed_more}
 use Rattle.roc_server.proofs.missing.done_of.Goals as goal
 use Rattle.roc_server.proofs.missing.done_of.Goals.{then-is_done_with+in_ok-push, else-is_done_with}
 

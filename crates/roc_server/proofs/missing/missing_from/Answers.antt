@@ -6,7 +6,7 @@ use Rattle.roc_base.specs.Edge.{Dependency}
 use Rattle.roc_step.specs.declared.waits.OpenFetch.{OpenFetch}
 use Rattle.roc_server.specs.Inner.Taught.{asked_by}
 use Rattle.roc_step.specs.Lists.{is_missing}
-use Rattle.roc_server.proofs.Pairs.{passed_more, failed_more}
+use Rattle.roc_server_groups.proofs.Pairs.{passed_more, failed_more}
 use Rattle.roc_server.proofs.missing.missing_from.Goals as goal
 use Rattle.roc_server.proofs.missing.missing_from.Goals.{then-is_lacking+in_ok-push, else-is_lacking}
 

@@ -1,5 +1,5 @@
 use Rattle.std.proofs.lemmas.Result.{on_ok_weaker}
-use Rattle.roc_server.proofs.SameGroups.{fits_same}
+use Rattle.roc_server_groups.proofs.SameGroups.{fits_same}
 use Rattle.roc_server.proofs.SettledRuns.{settles_runs}
 use Rattle.roc_server.proofs.settled.act_on_settled.Goals as goal
 

@@ -1,4 +1,4 @@
-use Rattle.std.proofs.Common.{◌++◌, [], ap, subst, ◌∙◌, append-nil}
+use Rattle.std.proofs.Common.{subst, ◌∙◌, append-nil}
 use Rattle.roc_server.specs.Inner.Over.{AreOver}
 use Rattle.roc_server.proofs.settled.prepare_ended.Goals as goal
 

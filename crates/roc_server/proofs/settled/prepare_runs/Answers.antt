@@ -1,6 +1,6 @@
 use Rattle.std.proofs.Common.{◌∙◌}
 use Rattle.roc_server.proofs.Alike.{alike_same}
-use Rattle.roc_server.proofs.Restored.{restored-none}
+use Rattle.roc_server_groups.proofs.Restored.{restored-none}
 use Rattle.roc_server.proofs.TaughtParts.{back_to}
 use Rattle.roc_server.proofs.Undone.{besides_alike}
 use Rattle.roc_server.proofs.settled.prepare_runs.Goals as goal

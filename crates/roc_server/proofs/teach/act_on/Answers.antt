@@ -1,5 +1,5 @@
 use Rattle.std.proofs.lemmas.Result.{on_ok_weaker}
-use Rattle.roc_server.proofs.SameGroups.{fits_same}
+use Rattle.roc_server_groups.proofs.SameGroups.{fits_same}
 use Rattle.roc_server.proofs.TaughtParts.{acts}
 use Rattle.roc_server.proofs.teach.act_on.Goals as goal
 

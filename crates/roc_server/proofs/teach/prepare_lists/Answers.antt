@@ -12,7 +12,7 @@ use Rattle.roc_step.specs.State.{unrun}
 use Rattle.roc_server.specs.Inner.Taught.{Acts, Learns, Teaches}
 use Rattle.roc_server.proofs.Alike.{alike_same}
 use Rattle.roc_server.proofs.Plans.{by_parts}
-use Rattle.roc_server.proofs.Restored.{restored-none}
+use Rattle.roc_server_groups.proofs.Restored.{restored-none}
 use Rattle.roc_server.proofs.TaughtParts.{back_to, beside, lists_planned, none_learnt, planned_taken, same_before, same_ids, still_once, still_open, taken_back}
 use Rattle.roc_server.proofs.TeachSteps.{teaches}
 use Rattle.roc_server.proofs.Undone.{besides_alike}

@@ -1,9 +1,9 @@
-use Rattle.std.proofs.Common.{sym, ap, subst}
+use Rattle.std.proofs.Common.{sym, subst}
 use Rattle.roc_server.specs.Ahead.{HasRoomToTake, IsReady, ServingFits}
 use Rattle.roc_server.specs.Inner.Held.{kept_before, serving, viewing_of, IsServed}
 use Rattle.roc_server.specs.Inner.ServerData.{state_of}
 use Rattle.roc_server.specs.State.{Serving}
-use Rattle.roc_server.proofs.GivenOut.{idle_count, idle_held, room_of_ahead}
+use Rattle.roc_server.proofs.GivenOut.{room_of_ahead}
 use Rattle.roc_server.proofs.server.Server.take_ready.Goals as goal
 
 pub take_ready-requires-clause-room : goal.take_ready-requires-clause-room

@@ -1,0 +1,10 @@
+mod Accesses
+pub mod CellByCell
+mod GroupRuns
+pub mod IndexSteps
+mod KeyedGroups
+pub mod Pairs
+mod Placed
+pub mod Restored
+pub mod SameGroups
+pub mod Stands

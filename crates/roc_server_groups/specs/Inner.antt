@@ -1,0 +1,4 @@
+-- What stands here is of private functions alone, or is a law that a type needs
+pub mod Keyed
+pub mod Looks
+pub mod Runs

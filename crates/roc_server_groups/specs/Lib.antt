@@ -1,0 +1,5 @@
+pub mod Entered
+pub mod Groups
+pub mod Indexed
+pub mod Runs
+pub mod Inner

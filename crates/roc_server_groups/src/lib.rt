@@ -1,0 +1,32 @@
+//! The groups that have started on a shard's server, without its dependency lists: what is found of them, what starts, what runs, and what is told of it
+//! (`docs/PROTOCOL.md`, "Server").
+//!
+//! Contracts see [`StartedGroups`] as the list of the groups in the order of their arrival, with how many more find room (`specs/Entered.antt`). Beside
+//! it stands an `Index` of `roc_server_index`: at each cell the references of the undecided groups that use it (`IsIndexOf` of `specs/Indexed.antt`).
+//!
+//! The layers above may rely on this: [`entries`] gives exactly the entries of a group that would start, whichever transactions the index says are
+//! decided, and looks at no more started groups than there are pairs of a cell that it uses and an undecided group of its class that uses that cell.
+//! [`run_all`] runs exactly what the step runs of transactions (`take_all` of `roc_step`), and whether there is memory or not [`put_back`] brings the
+//! groups back to what they were. [`reserve_group`] and [`StartedGroups::reserve`] take the memory that [`add_group`] and [`StartedGroups::enter`] need.
+//! Whatever wants memory otherwise leaves the groups as they were.
+#![tactic(auto)]
+
+mod begun;
+mod commitoks;
+mod group_key;
+mod groups;
+mod indexed;
+mod lent_groups;
+mod looks;
+mod ran;
+mod runs;
+mod started_groups;
+
+pub use begun::{Begun, begin_group, is_immediate};
+pub use commitoks::{send_commitok, send_commitoks};
+pub use groups::{differs, find_group, is_here};
+pub use indexed::{add_group, reserve_group, take_out};
+pub use looks::{Starting, edges_for, entries};
+pub use ran::{note_all, note_group};
+pub use runs::{Earlier, put_back, run_all};
+pub use started_groups::StartedGroups;
