@@ -7,10 +7,11 @@ use Rattle.roc_msg.specs.Outbox.{Collected, HasRoomFor, HoldsAlso, HoldsSame}
 use Rattle.roc_plan.specs.Groups.{Plan}
 use Rattle.roc_server.specs.declared.ahead.Ahead.{Ahead}
 use Rattle.roc_server.specs.declared.server_data.ServerData.{ServerData}
-use Rattle.roc_server.specs.declared.views.Views.{Views}
+use Rattle.roc_server_reads.specs.declared.views.Views.{Views}
 use Rattle.roc_server.specs.Ahead.{HasRoom, HasRoomToTake, IsMadeFor, IsReady, ServingFits}
 use Rattle.roc_server.specs.Inner.AtOnce.{at_once}
-use Rattle.roc_server.specs.Inner.Held.{kept_before, made_ahead, serving, viewing_of, viewing_then, CanCount, IsHeld, IsServed}
+use Rattle.roc_server.specs.Inner.Held.{kept_before, made_ahead, serving, CanCount, IsHeld, IsServed}
+use Rattle.roc_server_reads.specs.Views.{viewing_of, viewing_then}
 use Rattle.roc_server.specs.Inner.Planned.{after}
 use Rattle.roc_server.specs.Inner.ServerData.{state_of, IsConsistent}
 use Rattle.roc_server.specs.State.{MadeAhead, Serving}

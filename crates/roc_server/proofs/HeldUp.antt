@@ -1,9 +1,6 @@
 -- Which groups hold reads up behind a change
-use Rattle.std.proofs.Common.{◌≡◌, ◌↔◌, ◌++◌, ◌∷◌, ◌&&◌, ◌||◌, ◌⊎◌, inl, inr, ℕ, Bool, true, false, not, cond, List, [], Option, Some, None, filter, refl, sym, ap, subst, ◌∙◌}
+use Rattle.std.proofs.Common.{◌≡◌, ◌↔◌, ◌++◌, ◌∷◌, ◌&&◌, ◌||◌, ◌⊎◌, inl, inr, ℕ, Bool, true, false, not, cond, List, [], filter, refl, sym, ap, subst, ◌∙◌, append-nil}
 use Rattle.std.proofs.lemmas.Bool.{false≢true, not_from_false, or_cases, or_left, or_right}
-use Rattle.std.proofs.lemmas.List.Folds.{list_any-append}
-use Rattle.std.proofs.Math.Bool.{or-false}
-use Rattle.std.specs.Option.{option_to_list}
 use Rattle.roc_sequence.specs.Places.{is_listed, IsListed}
 use Rattle.roc_sequence.proofs.Appended.{listed_behind, listed_either, listed_front}
 use Rattle.roc_sequence.proofs.Filtered.{from_listed_filter, listed_filter}
@@ -29,7 +26,8 @@ use Rattle.roc_server.specs.declared.planned.Settlement.{Settlement}
 use Rattle.roc_server.specs.declared.server_data.ServerData.{ServerData}
 use Rattle.roc_step.specs.declared.started.StartedGroup.{StartedGroup}
 use Rattle.roc_step.specs.Forgets.{is_over, over}
-use Rattle.roc_server.specs.Inner.Answering.{decided_then, entered, is_held_up, newly, started_with, writes_one}
+use Rattle.roc_server_reads.specs.Behind.{decided_behind, is_held_up, writes_one}
+use Rattle.roc_server.specs.Inner.Answering.{left_behind, newly, starting}
 use Rattle.roc_server.specs.Inner.Planned.{after, unlearnt, AreListsPlanned, IsPlanned, IsSettledPlanned}
 use Rattle.roc_server.specs.Inner.Settled.{links_settled}
 use Rattle.roc_server.specs.Inner.ServerData.{IsConsistent}
@@ -52,6 +50,10 @@ left_held forgotten now before were same uses (e ∷ es) = go (forgotten e.id) r
     go true f ih = ih ∙ ap (λ b. (not b && writes_one uses e) || is_held_up before uses es) (sym (were e.id f))
     go false f ih = λ i. (not (same e.id f i) && writes_one uses e) || ih i
 
+-- it is decided behind a change, or forgotten
+abbrev decided_then : ServerData → Change → TxnId → Bool
+decided_then k change = decided_behind (left_behind k change)
+
 -- what a change decides and forgets of the groups here
 record Decides (shard : Shard) (k : ServerData) (change : Change) : Type 0 where
   forgotten : TxnId → Bool
@@ -59,7 +61,7 @@ record Decides (shard : Shard) (k : ServerData) (change : Change) : Type 0 where
   are : AreDecided (after shard k change).lists.links ids
   were : (t : TxnId) → forgotten t ≡ true → decided_then k change t ≡ true
   same : (t : TxnId) → forgotten t ≡ false → is_listed is_txn ids t ≡ decided_then k change t
-  stay : (after shard k change).started ≡ filter (λ e. not (forgotten e.id)) (started_with k.started.groups (entered change))
+  stay : (after shard k change).started ≡ filter (λ e. not (forgotten e.id)) (k.started.groups ++ starting change)
 
 -- ---- what is over is forgotten
 
@@ -134,7 +136,7 @@ module _ (before new : List TxnId) (links : List KnownList) (marks : List ℕ) (
 -- ---- change by change
 
 -- where nothing is newly decided and nothing forgotten
-unchanged : (shard : Shard) (k : ServerData) (change : Change) → IsConsistent k → newly change ≡ [] → (after shard k change).lists.links ≡ k.table.links → (after shard k change).started ≡ started_with k.started.groups (entered change)
+unchanged : (shard : Shard) (k : ServerData) (change : Change) → IsConsistent k → newly change ≡ [] → (after shard k change).lists.links ≡ k.table.links → (after shard k change).started ≡ k.started.groups ++ starting change
     → Decides shard k change
 unchanged shard k change sound none links groups =
     let right = sound.right in
@@ -149,8 +151,12 @@ unchanged shard k change sound none links groups =
             | inl a ↦ a
             | inr a ↦ absurd (none_listed t (subst (λ ts. IsListed is_txn ts t) none (listed_true is_txn (newly change) t a)))
           ]);
-      stay = groups ∙ sym (filter_all (λ e. true) (started_with k.started.groups (entered change)) (λ e h. refl));
+      stay = groups ∙ sym (filter_all (λ e. true) (k.started.groups ++ starting change) (λ e h. refl));
     }
+
+-- no group starts
+none_starts : (k : ServerData) → k.started.groups ≡ k.started.groups ++ []
+none_starts k = sym (append-nil k.started.groups)
 
 module _ (k : ServerData) (l : Lesson) (p : AreListsPlanned k l) where
   abbrev was : ServerData
@@ -195,8 +201,8 @@ module _ (k : ServerData) (s : Settlement) (p : IsSettledPlanned k s) where
       ]
 
 decides : (shard : Shard) (k : ServerData) (change : Change) → IsPlanned k change → Decides shard k change
-decides shard k Nothing p = unchanged shard k Nothing p refl refl refl
-decides shard k (Asker asker) p = unchanged shard k (Asker asker) p.0 refl refl refl
+decides shard k Nothing p = unchanged shard k Nothing p refl refl (none_starts k)
+decides shard k (Asker asker) p = unchanged shard k (Asker asker) p.0 refl refl (none_starts k)
 decides shard k (Group e) p = unchanged shard k (Group e) p.sound refl refl refl
 decides shard k (Lists l) p =
     let before = k.table.decided in
@@ -208,7 +214,7 @@ decides shard k (Lists l) p =
       are = are_left before ids k.table.links k.marks taken (lists_before k l p) (lists_new k l p) (lists_all k l p) (lists_taken k l p);
       were = were_decided before ids k.table.links k.marks taken (lists_before k l p) (lists_new k l p) (lists_all k l p) (lists_taken k l p);
       same = same_left before ids k.table.links k.marks taken (lists_before k l p) (lists_new k l p) (lists_all k l p) (lists_taken k l p);
-      stay = refl;
+      stay = ap (filter (λ e. not (is_listed is_txn (over k.marks taken) e.id))) (none_starts k);
     }
 decides shard k (Marks h) p =
     let right = p.sound.right in
@@ -222,7 +228,7 @@ decides shard k (Marks h) p =
       are = are_left before [] k.table.links h.marks k.taken.components right.decided_only none all taken;
       were = were_decided before [] k.table.links h.marks k.taken.components right.decided_only none all taken;
       same = same_left before [] k.table.links h.marks k.taken.components right.decided_only none all taken;
-      stay = refl;
+      stay = ap (filter (λ e. not (is_listed is_txn (over h.marks k.taken.components) e.id))) (none_starts k);
     }
 decides shard k (Settled s) p =
     let before = k.table.decided in
@@ -236,7 +242,7 @@ decides shard k (Settled s) p =
       are = are_left before ids links marks taken (settled_before k s p) (settled_new k s p) (settled_all k s p) (settled_taken k s p);
       were = were_decided before ids links marks taken (settled_before k s p) (settled_new k s p) (settled_all k s p) (settled_taken k s p);
       same = same_left before ids links marks taken (settled_before k s p) (settled_new k s p) (settled_all k s p) (settled_taken k s p);
-      stay = refl;
+      stay = ap (filter (λ e. not (is_listed is_txn (over marks taken) e.id))) (none_starts k);
     }
 
 -- ---- what is decided behind a change, and which groups hold up then
@@ -246,22 +252,9 @@ module _ (shard : Shard) (k : ServerData) (change : Change) (p : IsPlanned k cha
   decided_after = ((decides shard k change p).ids, (decides shard k change p).are)
 
   pub held_after : (ids : List TxnId) → AreDecided (after shard k change).lists.links ids → (uses : List Access)
-      → is_held_up (is_listed is_txn ids) uses (after shard k change).started ≡ is_held_up (decided_then k change) uses (started_with k.started.groups (entered change))
+      → is_held_up (is_listed is_txn ids) uses (after shard k change).started ≡ is_held_up (decided_then k change) uses (k.started.groups ++ starting change)
   held_after ids are uses =
       let d = decides shard k change p in
       let one : d.ids ≡ ids = rising_one (IsDecided (after shard k change).lists.links) d.ids ids d.are are in
       ap (is_held_up (is_listed is_txn ids) uses) d.stay
-      ∙ left_held d.forgotten (is_listed is_txn ids) (decided_then k change) d.were (λ t n. ap (λ ts. is_listed is_txn ts t) (sym one) ∙ d.same t n) uses (started_with k.started.groups (entered change))
-
--- those that are here, and the one that starts
-held_with : (decided : TxnId → Bool) (uses : List Access) (es : List StartedGroup) (entering : Option StartedGroup)
-    → (is_held_up decided uses es || is_held_up decided uses (option_to_list entering)) ≡ is_held_up decided uses (started_with es entering)
-held_with decided uses es None = or-false (is_held_up decided uses es)
-held_with decided uses es (Some e) = sym (list_any-append (λ x. not (decided x.id) && writes_one uses x) es (e ∷ []))
-
-pub held_first : (decided : TxnId → Bool) (uses : List Access) (es : List StartedGroup) (entering : Option StartedGroup) → is_held_up decided uses es ≡ true → true ≡ is_held_up decided uses (started_with es entering)
-held_first decided uses es entering h = ap (λ b. b || is_held_up decided uses (option_to_list entering)) (sym h) ∙ held_with decided uses es entering
-
-pub held_else : (decided : TxnId → Bool) (uses : List Access) (es : List StartedGroup) (entering : Option StartedGroup) (held : Bool) → is_held_up decided uses es ≡ false → held ≡ is_held_up decided uses (option_to_list entering)
-    → held ≡ is_held_up decided uses (started_with es entering)
-held_else decided uses es entering held h is = is ∙ ap (λ b. b || is_held_up decided uses (option_to_list entering)) (sym h) ∙ held_with decided uses es entering
+      ∙ left_held d.forgotten (is_listed is_txn ids) (decided_then k change) d.were (λ t n. ap (λ ts. is_listed is_txn ts t) (sym one) ∙ d.same t n) uses (k.started.groups ++ starting change)

@@ -25,10 +25,5 @@ mod MarkedLinks
 mod SettledRuns
 mod OneSettled
 mod HeldUp
-mod HeldByCell
 mod ReadSteps
-mod CountedWrites
-mod ReadTurns
 mod ReadsTaken
-mod CopiedCells
-mod ReadsOfPlan

@@ -14,14 +14,15 @@ use Rattle.roc_server.specs.declared.ahead.Outcome.{Outcome}
 use Rattle.roc_step.specs.declared.handled.Handled.{Handled}
 use Rattle.roc_step.specs.declared.kept_read.KeptRead.{KeptRead}
 use Rattle.roc_server.specs.declared.server_data.ServerData.{ServerData}
-use Rattle.roc_server.specs.declared.views.Views.{Views}
+use Rattle.roc_server_reads.specs.declared.views.Views.{Views}
 use Rattle.roc_server.specs.Ahead.{needs_room, HasAllMade, HasRoom, IsMadeFor, ServingFits}
 use Rattle.roc_step.specs.Fits.{AreGroupsOf, AreReadsOf}
 use Rattle.roc_server.specs.declared.planned.Change.{Change}
 use Rattle.roc_server.specs.declared.planned.Change.TheVariants.{Nothing, Asker, Group, Lists, Marks, Settled}
 use Rattle.roc_server.specs.declared.planned.Planned.{Planned}
 use Rattle.roc_server.specs.Inner.Answering.{read_step, PlansReads}
-use Rattle.roc_server.specs.Inner.Held.{kept_before, made_ahead, made_of, reads_then, serving, viewing_of, viewing_then, IsHeld, IsServed}
+use Rattle.roc_server.specs.Inner.Held.{kept_before, made_ahead, made_of, serving, IsHeld, IsServed}
+use Rattle.roc_server_reads.specs.Views.{reads_then, viewing_of, viewing_then}
 use Rattle.roc_server.specs.Inner.Planned.{after, before, rolled, IsPlanned}
 use Rattle.roc_server.specs.Inner.ServerData.{IsConsistent}
 use Rattle.roc_step.specs.Reads.{is_taken, reads_behind, with_accesses, AnswersReads, ReadStep}

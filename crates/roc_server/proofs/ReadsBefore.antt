@@ -28,7 +28,7 @@ use Rattle.roc_server.specs.Inner.Planned.{before, IsPlanned}
 use Rattle.roc_server_groups.specs.Groups.{is_same_group, AreSameGroups}
 use Rattle.roc_step.specs.Start.{is_user, users}
 use Rattle.roc_step.specs.State.{unrun}
-use Rattle.roc_server.proofs.MadeSteps.{held_sound}
+use Rattle.roc_server.proofs.MadeSteps.{held_sound, planned_sound}
 use Rattle.roc_server_groups.proofs.SameGroups.{fits_same, once_same}
 use Rattle.roc_server_groups.proofs.Stands.{group_refs_same}
 
@@ -80,6 +80,19 @@ index_now k ahead h c =
     ∙ (held_sound k ahead h).right.index c
     ∙ (λ i. undecided_refs (u.decided i) (group_refs_of c was.started.groups))
     ∙ ap (undecided_refs k.table.decided) (sym (group_refs_same c was.started.groups k.started.groups (same_before k ahead h)))
+
+module _ (k : ServerData) (change : Change) (p : IsPlanned k change) where
+  pub planned_once : NoneTwice is_same_group k.started.groups
+  planned_once = once_same (before k change).started.groups k.started.groups (same_by k change p) (planned_sound k change p).right.groups_once
+
+  pub planned_index : IsIndexOf k.index k.table.decided k.started.groups
+  planned_index c =
+      let was = before k change in
+      let u = untouched_by k change in
+      (λ i. group_refs_at c (sym u.index i))
+      ∙ (planned_sound k change p).right.index c
+      ∙ (λ i. undecided_refs (u.decided i) (group_refs_of c was.started.groups))
+      ∙ ap (undecided_refs k.table.decided) (sym (group_refs_same c was.started.groups k.started.groups (same_by k change p)))
 
 -- ---- what is read of them
 

@@ -14,7 +14,7 @@ use Rattle.roc_step.specs.Fits.{IsReadOf}
 use Rattle.roc_step.specs.Reads.{after_read, read_judged}
 use Rattle.roc_step.specs.State.{first_answer, ServerState, ServerStep}
 use Rattle.roc_step.specs.Step.{Findings, after_message}
-use Rattle.roc_server.specs.Inner.Answering.{TakenFits}
+use Rattle.roc_server_reads.specs.Answering.{TakenFits}
 use Rattle.roc_server.proofs.MessageSteps.{IsStepFor}
 
 abbrev is_done : Handled → Bool

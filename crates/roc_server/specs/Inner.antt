@@ -1,7 +1,6 @@
 -- What stands here is of private functions alone, or is a law that a type needs
 pub mod Shown
 pub mod Over
-pub mod HoldsUp
 pub mod ServerData
 pub mod Starts
 pub mod Taught

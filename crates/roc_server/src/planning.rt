@@ -12,7 +12,7 @@ use crate::Handled;
 use crate::commits::{prepare_commit, prepare_known};
 use crate::fetches::prepare_fetch;
 use crate::planned::Planned;
-use crate::read_refusals::prepare_read;
+use crate::reads::prepare_read;
 use crate::server_data::ServerData;
 use crate::settled::{prepare_ended, prepare_settled};
 use crate::starts::{Request, prepare_start};

@@ -1,41 +1,21 @@
 -- What a server holds: what it keeps, what it keeps for views, and what was made ahead, where something was
-use Rattle.std.specs.Prelude.{◌≤◌, ⊤, List, Option, Some, None, Vec, length, filter, option_map, if◌then◌else◌}
-use Rattle.std.specs.declared.alloc.Global.{Global}
+use Rattle.std.specs.Prelude.{⊤, Option, Some, None, option_map}
 use Rattle.roc_base.specs.declared.node.Shard.{Shard}
-use Rattle.roc_msg.specs.declared.outbox.Ran.{Ran}
 use Rattle.roc_msg.specs.declared.msg.Msg.{Msg}
 use Rattle.roc_msg.specs.Outbox.{Collected}
 use Rattle.roc_plan.specs.Groups.{Plan}
 use Rattle.roc_server.specs.declared.ahead.Ahead.{Ahead}
 use Rattle.roc_server.specs.declared.ahead.Outcome.{Outcome}
 use Rattle.roc_step.specs.declared.handled.Handled.{Handled}
-use Rattle.roc_step.specs.declared.kept_read.KeptRead.{KeptRead}
 use Rattle.roc_server.specs.declared.server_data.ServerData.{ServerData}
-use Rattle.roc_server.specs.declared.views.Views.{Views}
-use Rattle.roc_step.specs.Reads.{is_taken, with_accesses, AnswersReads, ReadStep}
+use Rattle.roc_server_reads.specs.declared.views.Views.{Views}
+use Rattle.roc_server_reads.specs.Views.{viewing_of, viewing_then, HasRoomToCount}
+use Rattle.roc_step.specs.Reads.{AnswersReads, ReadStep}
 use Rattle.roc_server.specs.State.{MadeAhead, Serving}
 use Rattle.roc_step.specs.State.{ServerState, ServerStep, Viewing}
 use Rattle.roc_step.specs.Step.{Handles, Shows}
 use Rattle.roc_server.specs.Inner.Planned.{after, before, IsPlanned}
 use Rattle.roc_server.specs.Inner.ServerData.{state_of, IsConsistent}
-
--- ---- what is kept for views
-
-abbrev pub viewing_of : Views → Viewing
-viewing_of v = record { versions = v.versions.counts; reads = v.reads.items }
-
--- the reads that stay, where others stay than were kept
-abbrev pub reads_then : List KeptRead → Option (Vec KeptRead Global) → List KeptRead
-reads_then reads None = reads
-reads_then reads (Some stays) = stays.items
-
--- behind a step that was answered so, in which this ran, and behind which these reads stay
-abbrev pub viewing_then : Viewing → Handled → List Ran → Option (Vec KeptRead Global) → Viewing
-viewing_then v answer ran stays = if is_taken answer then record { versions = with_accesses v.versions ran; reads = reads_then v.reads stays } else v
-
--- there is room to count what these write
-abbrev pub HasRoomToCount : List Ran → Views → Type 0
-HasRoomToCount ran v = length (filter (λ a. a.writes) ran) ≤ v.versions.spare
 
 -- ---- a server, of which something may be made ahead
 

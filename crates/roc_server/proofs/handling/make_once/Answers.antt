@@ -1,6 +1,7 @@
 use Rattle.std.proofs.Common.{◌∙◌, sym}
 use Rattle.std.proofs.lemmas.Bool.{false≢true}
-use Rattle.roc_server.specs.Inner.Held.{serving, viewing_of}
+use Rattle.roc_server.specs.Inner.Held.{serving}
+use Rattle.roc_server_reads.specs.Views.{viewing_of}
 use Rattle.roc_server.specs.Inner.ServerData.{state_of}
 use Rattle.roc_server.proofs.MadeSteps.{found_made, groups_from, made_msg, made_once}
 use Rattle.roc_server.proofs.handling.make_once.Goals as goal

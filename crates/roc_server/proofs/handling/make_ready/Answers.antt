@@ -3,7 +3,8 @@ use Rattle.std.proofs.lemmas.Result.{IfOk-weaker, on_ok_weaker}
 use Rattle.std.specs.Option.{option_map}
 use Rattle.roc_msg.specs.Outbox.{HasRoomFor}
 use Rattle.roc_server.specs.Ahead.{IsMadeFor}
-use Rattle.roc_server.specs.Inner.Held.{made_ahead, serving, viewing_of}
+use Rattle.roc_server.specs.Inner.Held.{made_ahead, serving}
+use Rattle.roc_server_reads.specs.Views.{viewing_of}
 use Rattle.roc_server.proofs.MadeSteps.{has_room, made_answer, room_for, room_is, room_same}
 use Rattle.roc_server.proofs.handling.make_ready.Goals as goal
 

@@ -1,5 +1,5 @@
 use Rattle.std.proofs.Common.{◌∙◌, refl}
-use Rattle.roc_server.specs.Inner.Held.{viewing_of}
+use Rattle.roc_server_reads.specs.Views.{viewing_of}
 use Rattle.roc_server.specs.Inner.ServerData.{state_of}
 use Rattle.roc_server.specs.Inner.Planned.{after}
 use Rattle.roc_server.proofs.MadeSteps.{made_for, then_fit}

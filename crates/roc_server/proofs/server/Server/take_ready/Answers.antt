@@ -1,6 +1,7 @@
 use Rattle.std.proofs.Common.{sym, subst}
 use Rattle.roc_server.specs.Ahead.{HasRoomToTake, IsReady, ServingFits}
-use Rattle.roc_server.specs.Inner.Held.{kept_before, serving, viewing_of, IsServed}
+use Rattle.roc_server.specs.Inner.Held.{kept_before, serving, IsServed}
+use Rattle.roc_server_reads.specs.Views.{viewing_of}
 use Rattle.roc_server.specs.Inner.ServerData.{state_of}
 use Rattle.roc_server.specs.State.{Serving}
 use Rattle.roc_server.proofs.GivenOut.{room_of_ahead}

@@ -1,0 +1,6 @@
+mod HeldByCell
+mod ReadSteps
+mod CountedWrites
+mod ReadTurns
+mod CopiedCells
+mod ReadsOfPlan

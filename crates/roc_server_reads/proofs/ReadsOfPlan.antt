@@ -1,0 +1,48 @@
+-- Reads of the plan stay so
+use Rattle.std.proofs.Common.{◌++◌, ◌∷◌, [], Bool, true, false, cond, if◌then◌else◌, List, filter}
+use Rattle.std.specs.List.{AllByRecursion, list_any}
+use Rattle.roc_sequence.proofs.Holds.{all_append}
+use Rattle.roc_msg.specs.declared.msg.Msg.{Msg}
+use Rattle.roc_msg.specs.declared.msg.Msg.TheVariants.{Read}
+use Rattle.roc_plan.specs.Groups.{Plan}
+use Rattle.roc_step.specs.declared.handled.Handled.{Handled}
+use Rattle.roc_step.specs.declared.handled.Handled.TheVariants.{Done, Gone, Ignored}
+use Rattle.roc_step.specs.declared.kept_read.KeptRead.{KeptRead}
+use Rattle.roc_step.specs.Fits.{AreReadsOf, IsReadOf}
+use Rattle.roc_step.specs.Reads.{in_turn, is_read_before, is_same_read, put_read, reads_with, with_read}
+use Rattle.roc_server_reads.specs.Answering.{TakenFits}
+
+module _ (P : KeptRead → Type 0) where
+  pub some_hold : (test : KeptRead → Bool) (qs : List KeptRead) → AllByRecursion P qs → AllByRecursion P (filter test qs)
+  some_hold test [] all = tt
+  some_hold test (q ∷ qs) all = go (test q) (some_hold test qs all.1)
+    where
+      go : (b : Bool) → AllByRecursion P (filter test qs) → AllByRecursion P (cond b (q ∷ filter test qs) (filter test qs))
+      go true rest = (all.0, rest)
+      go false rest = rest
+
+  put_holds : (q : KeptRead) (rs : List KeptRead) → P q → AllByRecursion P rs → AllByRecursion P (put_read q rs)
+  put_holds q [] one all = (one, tt)
+  put_holds q (r ∷ rs) one all = go (is_read_before r q) (put_holds q rs one all.1)
+    where
+      go : (b : Bool) → AllByRecursion P (put_read q rs) → AllByRecursion P (if b then r ∷ put_read q rs else q ∷ r ∷ rs)
+      go true rest = (all.0, rest)
+      go false rest = (one, all)
+
+  pub turn_holds : (qs : List KeptRead) → AllByRecursion P qs → AllByRecursion P (in_turn qs)
+  turn_holds [] all = tt
+  turn_holds (q ∷ qs) all = put_holds q (in_turn qs) all.0 (turn_holds qs all.1)
+
+-- and so they do with the one that was taken
+one_more_fits : (plan : Plan) (q : KeptRead) (reads : List KeptRead) → IsReadOf plan q → AreReadsOf plan reads → AreReadsOf plan (with_read q reads)
+one_more_fits plan q reads one all = go (list_any (is_same_read q) reads)
+  where
+    go : (b : Bool) → AreReadsOf plan (if b then reads else reads ++ q ∷ [])
+    go true = all
+    go false = all_append (IsReadOf plan) reads (q ∷ []) all (one, tt)
+
+pub with_fits : (plan : Plan) (msg : Msg) (answer : Handled) (reads : List KeptRead) → TakenFits plan msg answer → AreReadsOf plan reads → AreReadsOf plan (reads_with msg answer reads)
+with_fits plan (Read id round proc group args) Done reads one all = one_more_fits plan (record { id = id; round = round; proc = proc; group = group; args = args }) reads one all
+with_fits plan (Read id round proc group args) Gone reads one all = all
+with_fits plan (Read id round proc group args) (Ignored reason) reads one all = all
+with_fits plan msg answer reads one all = all

@@ -1,0 +1,4 @@
+pub mod Views
+pub mod Behind
+pub mod Answering
+pub mod Inner

@@ -1,0 +1,25 @@
+-- What a server keeps for views, and what it keeps behind a step
+use Rattle.std.specs.Prelude.{◌≤◌, List, Option, Some, None, Vec, length, filter, if◌then◌else◌}
+use Rattle.std.specs.declared.alloc.Global.{Global}
+use Rattle.roc_msg.specs.declared.outbox.Ran.{Ran}
+use Rattle.roc_server_reads.specs.declared.views.Views.{Views}
+use Rattle.roc_step.specs.declared.handled.Handled.{Handled}
+use Rattle.roc_step.specs.declared.kept_read.KeptRead.{KeptRead}
+use Rattle.roc_step.specs.Reads.{is_taken, with_accesses}
+use Rattle.roc_step.specs.State.{Viewing}
+
+abbrev pub viewing_of : Views → Viewing
+viewing_of v = record { versions = v.versions.counts; reads = v.reads.items }
+
+-- the reads that stay, where others stay than were kept
+abbrev pub reads_then : List KeptRead → Option (Vec KeptRead Global) → List KeptRead
+reads_then reads None = reads
+reads_then reads (Some stays) = stays.items
+
+-- behind a step that was answered so, in which this ran, and behind which these reads stay
+abbrev pub viewing_then : Viewing → Handled → List Ran → Option (Vec KeptRead Global) → Viewing
+viewing_then v answer ran stays = if is_taken answer then record { versions = with_accesses v.versions ran; reads = reads_then v.reads stays } else v
+
+-- there is room to count what these write
+abbrev pub HasRoomToCount : List Ran → Views → Type 0
+HasRoomToCount ran v = length (filter (λ a. a.writes) ran) ≤ v.versions.spare

@@ -1,0 +1,26 @@
+//! What a server keeps for views, and what comes of a step for reads (`docs/PROTOCOL.md`, "Views"): how often each cell was written, the reads that wait,
+//! which of them are free, and what is answered to these. Nothing here tells what a step plans: what of it holds reads up is lent as a [`Behind`].
+//!
+//! Contracts see [`Views`] as the `Viewing` of `roc_step` (`viewing_of` of `specs/Views.antt`), with room to count in, and a [`Behind`] as the cells, the
+//! groups and the decided transactions that a step leaves (`LeftBehind` of `specs/Behind.antt`).
+//!
+//! The layers above may rely on this: [`plan_reads`] answers exactly the reads that are free behind the step, in turn, and gives those that stay
+//! (`AreReadsPlanned` of `specs/Answering.antt`); [`keep_views`] then counts what ran and keeps them, and takes no memory. A read is found free by the
+//! index: it looks at no group but those that are undecided and use one of its cells, and the one that starts. Whatever wants memory leaves the counts
+//! and the reads that wait as they were.
+#![tactic(auto)]
+
+mod answering;
+mod behind;
+mod free_reads;
+mod held_up;
+mod kept_reads;
+mod readoks;
+mod refusals;
+mod turns;
+mod views;
+
+pub use answering::plan_reads;
+pub use behind::Behind;
+pub use refusals::read_refusal;
+pub use views::{Views, drop_reads, keep_views};
