@@ -5,9 +5,8 @@
 //! groups and the decided transactions that a step leaves (`LeftBehind` of `specs/Behind.antt`).
 //!
 //! The layers above may rely on this: [`plan_reads`] answers exactly the reads that are free behind the step, in turn, and gives those that stay
-//! (`AreReadsPlanned` of `specs/Answering.antt`); [`keep_views`] then counts what ran and keeps them, and takes no memory. A read is found free by the
-//! index: it looks at no group but those that are undecided and use one of its cells, and the one that starts. Whatever wants memory leaves the counts
-//! and the reads that wait as they were.
+//! (`AreReadsPlanned` of `specs/Answering.antt`); [`keep_views`] then counts what ran and keeps them, and takes no memory. Whatever wants memory leaves the
+//! counts and the reads that wait as they were.
 #![tactic(auto)]
 
 mod answering;
