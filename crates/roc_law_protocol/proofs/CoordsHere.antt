@@ -34,9 +34,10 @@ use Rattle.roc_law_protocol.specs.Aside.{transaction_tick_sends}
 use Rattle.roc_law_protocol.specs.Fits.{AreSeenHere, AreListsHere, NamesNodes, IsTransactionHere}
 use Rattle.roc_law_protocol.proofs.Coordinators.{from_gathered}
 use Rattle.roc_law_protocol.proofs.Facts.{has_fitting}
-use Rattle.roc_law_protocol.proofs.Named.{shard_below, all_filter, all_flat, seen_united, IsOutHere}
+use Rattle.roc_law_protocol.proofs.Named.{shard_below, all_flat, seen_united, IsOutHere}
 use Rattle.roc_law_protocol.proofs.Marks.{mark_sent}
 use Rattle.roc_coord.specs.Marks.{ended_sends, passes_mark}
+use Rattle.roc_coord.proofs.Keeping.{all_filter}
 
 -- the shards of sent starts are there
 asked_here : (servers : ℕ) (starts : List SentStart) → AllByRecursion (λ (start : SentStart). start.shard.0 < servers) starts → (count : ℕ) → AllByRecursion (λ (shard : Shard). shard.0 < servers) (shards_below count starts)

@@ -1,4 +1,4 @@
-mod Marks
+pub mod Marks
 mod MarksKept
 pub mod Thinned
 pub mod KeptAside
@@ -11,7 +11,7 @@ pub mod ForgottenHere
 mod Followed
 mod Flattened
 pub mod Means
-mod Grows
+pub mod Grows
 pub mod Meets
 pub mod Facts
 mod Local
@@ -27,7 +27,7 @@ mod Changing
 mod Forgets
 mod Teaching
 pub mod Coordinators
-mod Rounds
+pub mod Rounds
 mod Replies
 pub mod Changed
 pub mod FirstTaken
@@ -37,6 +37,7 @@ mod Explains
 pub mod Served
 pub mod Stopping
 pub mod Stops
+pub mod ServerSends
 mod NoStarts
 mod Coordinated
 mod AsideSteps
@@ -78,9 +79,9 @@ mod Heard
 mod Outstanding
 mod Taken
 mod OutstandingSteps
-mod Undelivered
+pub mod Undelivered
 pub mod Counting
-mod Deliveries
+pub mod Deliveries
 mod Ongoing
 mod OngoingRuns
 mod Liveness

@@ -4,7 +4,7 @@ use Rattle.std.proofs.Math.Nat.{mod-lt}
 use Rattle.std.specs.Prelude.{ℤ, filter, flat_map}
 use Rattle.std.specs.List.{AllByRecursion}
 use Rattle.roc_sequence.proofs.Holds.{all_has, has_all, all_append}
-use Rattle.roc_sequence.proofs.Members.{from_has_filter, from_has_flat_map}
+use Rattle.roc_sequence.proofs.Members.{from_has_flat_map}
 use Rattle.roc_base.specs.Edge.{Dependency}
 use Rattle.roc_base.specs.Edges.{united}
 use Rattle.roc_base.proofs.Union.{AllByRecursion-united}
@@ -12,6 +12,7 @@ use Rattle.roc_msg.specs.InPlace.{in_place}
 use Rattle.roc_msg.specs.declared.outbox.Outgoing.{Outgoing}
 use Rattle.roc_plan.specs.Groups.{Plan, shard_of}
 use Rattle.roc_law_protocol.specs.Fits.{IsNode, AreSeenHere, NamesNodes}
+use Rattle.roc_coord.proofs.Keeping.{all_filter}
 
 -- the shard of a place is one of the plan's
 pub shard_below : (plan : Plan) → 0 < plan.program.shards → (place : ℤ) → shard_of plan place < plan.program.shards
@@ -22,11 +23,8 @@ shard_below plan some (negsuc a) = below plan.program.shards (a % plan.program.s
     below n r l = omega arith
 
 module _ {A : Type 0} (P : A → Type 0) where
-  pub all_filter : (p : A → Bool) (xs : List A) → AllByRecursion P xs → AllByRecursion P (filter p xs)
-  all_filter p xs h = has_all P (filter p xs) (λ a k. all_has P a xs h (from_has_filter p a xs k).0)
-
   pub all_in_place : (before : A → A → Bool) (a : A) (xs : List A) → P a → AllByRecursion P xs → AllByRecursion P (in_place before a xs)
-  all_in_place before a xs p h = all_append P (filter (λ x. before x a) xs) (a ∷ filter (λ x. before a x) xs) (all_filter (λ x. before x a) xs h) (p, all_filter (λ x. before a x) xs h)
+  all_in_place before a xs p h = all_append P (filter (λ x. before x a) xs) (a ∷ filter (λ x. before a x) xs) (all_filter P (λ x. before x a) xs h) (p, all_filter P (λ x. before a x) xs h)
 
   pub all_flat : {B : Type 0} (f : B → List A) (xs : List B) → AllByRecursion (λ x. AllByRecursion P (f x)) xs → AllByRecursion P (flat_map f xs)
   all_flat f xs h = has_all P (flat_map f xs) (λ a k. (let q = from_has_flat_map f a xs k in all_has P a (f q.0) (all_has (λ x. AllByRecursion P (f x)) q.0 xs h q.1) q.2))

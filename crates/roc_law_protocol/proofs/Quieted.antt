@@ -1,5 +1,5 @@
 -- A quiet transaction is decided wherever it has a group, and its commits are answered
-use Rattle.std.proofs.Common.{◌≡◌, ℕ, ℤ, suc, ◌<◌, Bool, true, false, List, [], ◌∷◌, Option, Some, None, length, refl, sym, ap, subst, ◌∙◌, inl, inr, arith, is_some, unwrap_or, map}
+use Rattle.std.proofs.Common.{◌≡◌, ℕ, ℤ, ◌<◌, Bool, true, false, List, [], Option, Some, None, length, refl, sym, ap, subst, ◌∙◌, inl, inr, arith, is_some, unwrap_or, map}
 use Rattle.std.proofs.lemmas.Bool.{false≢true}
 use Rattle.std.specs.Prelude.{slice_get, flat_map}
 use Rattle.std.specs.List.{range_with_len}
@@ -56,14 +56,9 @@ use Rattle.roc_law_protocol.proofs.Followed.{link_entry}
 use Rattle.roc_law_protocol.proofs.Served.{StartsAre}
 use Rattle.roc_step.proofs.SameIds.{known_alike}
 use Rattle.roc_law_protocol.proofs.Marks.{IsMark}
+use Rattle.roc_law_protocol.proofs.Undelivered.{number_of}
 
 -- ---- lists
-
--- each element stands at a place
-has_place : {A : Type 0} (xs : List A) (a : A) → Has a xs → (i : ℕ) × (slice_get xs i ≡ Some a)
-has_place [] a h = absurd h
-has_place (x ∷ xs) a (inl e) = (0, ap (λ x. Some x) (sym e))
-has_place (x ∷ xs) a (inr h) = let r = has_place xs a h in (suc r.0, r.1)
 
 -- a transaction with an entry has a known list
 entry_known : (known : List KnownList) (t : TxnId) (d : Dependency) → Has d (entries_of known t) → IsKnown known t
@@ -109,7 +104,7 @@ module _ (plan : Plan) (marks : ℕ) (steps : List Stepped) (w : World) (o : Has
       let st = (o.awaits n s there).starts.groups q.0 q.1 in
       let start : st.3.msg ≡ Start u st.0 q.0.group st.1 st.2 = subst (λ t. st.3.msg ≡ Start t st.0 q.0.group st.1 st.2) (is_txn-true q.0.id u q.2) st.6 in
       let c = (out u d).each st.3 (record { 0 = n }) st.0 q.0.group st.1 st.2 st.4 st.5 start in
-      let p = has_place w.sent c.2 c.3 in
+      let p = number_of w.sent c.2 c.3 in
       let a : At w.servers n (HasCommit w.sent u (record { 0 = n })) = taken u d p.0 c.2 p.1 (Commit u c.0 c.1) (Server (record { 0 = n })) c.5 c.4 refl in
       subst (λ (v : ServerState). IsKnown v.lists.known u) (same_there w.servers n a.0 s a.1 there) (elim a.2 [ inl k ↦ k.1 | inr gone ↦ absurd (here_stays s u here (subst (λ (v : ServerState). IsGone v u) (same_there w.servers n a.0 s a.1 there) gone)) ])
 

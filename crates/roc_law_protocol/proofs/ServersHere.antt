@@ -46,9 +46,10 @@ use Rattle.roc_law_protocol.specs.Fits.{AreSeenHere, AreListsHere, NamesNodes, I
 use Rattle.roc_law_protocol.proofs.KeptGroups.{take_keeps, take_same}
 use Rattle.roc_law_protocol.proofs.Facts.{has_fitting}
 use Rattle.roc_law_protocol.proofs.Served.{list_has}
-use Rattle.roc_law_protocol.proofs.Named.{all_filter, all_in_place, all_flat, seen_united, IsOutHere}
+use Rattle.roc_law_protocol.proofs.Named.{all_in_place, all_flat, seen_united, IsOutHere}
 use Rattle.roc_step.specs.declared.handled.Handled.{Handled}
 use Rattle.roc_step.specs.declared.handled.Handled.TheVariants.{Ignored, Gone}
+use Rattle.roc_coord.proofs.Keeping.{all_filter}
 
 -- a start is taken only of a group of the plan
 called : (plan : Plan) (s : ServerState) (id : TxnId) (c : GroupCall) → start_refusal plan s id c ≡ None → IsCallOf plan c
