@@ -1,5 +1,5 @@
 pub mod Sound
-mod OfPlan
+pub mod OfPlan
 mod Whole
 mod Deferred
 mod SmallPlans

@@ -51,7 +51,7 @@ pieces_long procedure p (k ∷ ks) =
     omega (arith, one, rest, own, places, both)
 
 -- and how much a whole run says
-whole_long : (p : Progress) (pieces : List Piece) → length (after_pieces p pieces).reply ≡ length p.reply + length (outputs pieces)
+pub whole_long : (p : Progress) (pieces : List Piece) → length (after_pieces p pieces).reply ≡ length p.reply + length (outputs pieces)
 whole_long p [] = omega arith
 whole_long p (x ∷ xs) =
     let one = body_long (value x.place p.environment) p x.body in

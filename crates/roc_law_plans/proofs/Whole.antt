@@ -1,7 +1,7 @@
 -- Transactions one by one are whole procedures
 use Rattle.std.proofs.Common.{◌≡◌, ◌≢◌, ℕ, ◌<◌, ℤ, pos, Bool, true, false, ◌==◌, List, [], ◌∷◌, ◌++◌, length, map, zip, slice_index_or, refl, sym, ap, subst, ◌∙◌, ◌⊎◌, inl, inr, arith, Some, IsTrue}
 use Rattle.std.specs.List.{AllByRecursion, flat_map, range_with_len}
-use Rattle.std.proofs.lemmas.Bool.{cond-true, cond-false, false_from_ne_true, false≢true, eqb-true, eq-eqb}
+use Rattle.std.proofs.lemmas.Bool.{cond-true, cond-false, false_from_ne_true, false≢true, eqb-true, eq-eqb, ne_eqb}
 use Rattle.roc_sequence.specs.Lists.{Has}
 use Rattle.roc_sequence.specs.Places.{IsListed, IsListedBefore, NoneTwice}
 use Rattle.roc_sequence.proofs.Places.{place_of-here, place_of-there, listed_cases, listed_head, listed_tail}
@@ -33,9 +33,6 @@ use Rattle.roc_law_plans.specs.Scheme.{scheme_of, AreOrders}
 
 -- ---- what groups gave, in both forms
 
-other : (a b : ℕ) → a ≢ b → (a == b) ≡ false
-other a b n = false_from_ne_true (a == b) (λ h. n (eqb-true a b h))
-
 is_itself : (a : ℕ) → (a == a) ≡ true
 is_itself a = eq-eqb a a refl
 
@@ -65,8 +62,8 @@ tied_more Y Z given done e fresh k b o same =
     bounds : (g : ℕ) → Has g (e.group ∷ done) → bound_by (given ++ e ∷ []) g ≡ (Z g).bound
     bounds g (inl i) =
         subst (λ x. bound_by (given ++ e ∷ []) x ≡ (Z x).bound) (sym i)
-        (bound_new given e (λ x m. other x.group e.group (λ f. fresh (subst (λ y. Has y done) f (k.all x m)))) ∙ sym b)
-    bounds g (inr m) = bound_before given e g (other e.group g (away g m)) ∙ k.bound g m ∙ ap (λ (y : Yield). y.bound) (sym (same g (away g m)))
+        (bound_new given e (λ x m. ne_eqb x.group e.group (λ f. fresh (subst (λ y. Has y done) f (k.all x m)))) ∙ sym b)
+    bounds g (inr m) = bound_before given e g (ne_eqb e.group g (away g m)) ∙ k.bound g m ∙ ap (λ (y : Yield). y.bound) (sym (same g (away g m)))
 
     outs : (g : ℕ) → Has g (e.group ∷ done) → (x : Given) × Has x (given ++ e ∷ []) × (x.group ≡ g) × ((Z g).outs ≡ x.outs)
     outs g (inl i) = (e, has_right e given (e ∷ []) (inl refl), sym i, subst (λ x. (Z x).outs ≡ e.outs) (sym i) o)
@@ -153,7 +150,7 @@ module _ (plan : Plan) (orders : ℕ → List ℕ) (asked : TxnId → whole.Call
           go true e = inl (inl (eqb-true i g e))
           go false e =
               let x = place_of-there (is_number i) g todo e in
-              let y = place_of-there (is_number h) g todo (other h g (λ f. not_here (subst (λ a. Has a todo) f m))) in
+              let y = place_of-there (is_number h) g todo (ne_eqb h g (λ f. not_here (subst (λ a. Has a todo) f m))) in
               inr (omega (arith, b, x, y))
 
   -- as the whole run
