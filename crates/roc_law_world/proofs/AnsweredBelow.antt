@@ -1,5 +1,5 @@
 -- What is below a watermark that was told or heard was answered
-use Rattle.std.proofs.Common.{◌≡◌, inl, inr, ℕ, ℤ, ◌<◌, ◌≤◌, true, List, [], ◌∷◌, Some, length, sym, subst, arith}
+use Rattle.std.proofs.Common.{◌≡◌, inl, inr, ℕ, ℤ, ◌<◌, ◌≤◌, true, List, Some, length, sym, subst, arith}
 use Rattle.std.proofs.lemmas.Option.{slice_get_cases}
 use Rattle.std.specs.Prelude.{slice_get}
 use Rattle.roc_sequence.specs.Lists.{Has}
@@ -10,7 +10,6 @@ use Rattle.roc_program.specs.WellFormed.{IsProcedure}
 use Rattle.roc_program.proofs.Views.{view_there}
 use Rattle.roc_msg.specs.declared.msg.Envelope.{Envelope}
 use Rattle.roc_msg.specs.declared.msg.Msg.TheVariants.{Ended}
-use Rattle.roc_coord.specs.Marks.{least_seq}
 use Rattle.roc_coord.specs.State.{CoordState}
 use Rattle.roc_plan.specs.Groups.{Plan, procedure_of, groups_of, is_view_of}
 use Rattle.roc_plan.specs.Accepted.{IsAccepted}
@@ -20,9 +19,9 @@ use Rattle.roc_law_world.specs.Fits.{NamesNodes, IsSentHere}
 use Rattle.roc_law_world.specs.Run.{Stepped, IsRunFrom}
 use Rattle.roc_law_world.proofs.Answering.{AreTold}
 use Rattle.roc_law_world.proofs.Calm.{IsPassed}
-use Rattle.roc_law_world.proofs.CoordMarks.{mark_least}
 use Rattle.roc_law_world.proofs.FitWorlds.{run_fits}
 use Rattle.roc_law_world.proofs.UsedSequences.{IsUsed}
+use Rattle.roc_law_protocol.proofs.Marks.{mark_least, least_next}
 
 -- a view has some group
 pub some_group : (plan : Plan) → IsAccepted plan → ((p : ℕ) → is_view_of plan p ≡ true → length (groups_of plan p) ≡ length (procedure_of plan p).pieces)
@@ -38,17 +37,12 @@ answered_below w told t was passed =
       | inr r ↦ r
     ]
 
--- a watermark is no higher than the next sequence
-mark_next : (ids : List TxnId) (next : ℕ) → least_seq ids next ≤ next
-mark_next [] next = omega arith
-mark_next (id ∷ ids) next = let rest = mark_next ids next in omega arith
-
 -- so each below it, from the beginning's next sequence on, was submitted and answered
 pub answered_late : (nexts : ℕ → ℕ) (w : World) → AreTold w → IsUsed nexts w → (t : TxnId) (c : CoordState) → slice_get w.coords t.coord ≡ Some c → nexts t.coord ≤ t.seq → IsPassed w.coords t
     → (reply : List ℤ) × WasAnswered w.history t reply
 answered_late nexts w told used t c there late passed =
     let low = passed c there in
-    let high = mark_next c.unanswered c.next in
+    let high = least_next c.unanswered c.next in
     answered_below w told t (used.submitted t.coord c there t.seq late (omega arith)) passed
 
 -- the coordinator of an ended is there

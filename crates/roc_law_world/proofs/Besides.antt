@@ -1,5 +1,6 @@
 -- The world beside, of transactions alone: what holds of it, and how it takes the steps of servers and coordinators
 use Rattle.std.proofs.Common.{◌≡◌, ◌↔◌, ◌∙◌, ◌⊎◌, inl, inr, ℕ, zero, suc, Bool, true, false, not, cond, List, [], ◌∷◌, ◌++◌, Option, Some, None, refl, sym, ap, subst, append-nil, ◌≢◌}
+use Rattle.std.proofs.lemmas.List.Elements.{filter-append}
 use Rattle.std.specs.Prelude.{slice_get, slice_set}
 use Rattle.std.specs.List.{filter}
 use Rattle.roc_sequence.specs.Lists.{Has}
@@ -23,7 +24,7 @@ use Rattle.roc_law_world.specs.World.{World, sends, at_server, at_coord}
 use Rattle.roc_law_world.specs.Happens.{Outcome, undecided}
 use Rattle.roc_law_world.specs.Bare.{bare_step}
 use Rattle.roc_law_world.specs.Beside.{is_of_view, of_transactions, number_among, IsBeside, is_of_transaction}
-use Rattle.roc_law_world.proofs.Sent.{filter_append, envelopes, beside_sends}
+use Rattle.roc_law_world.proofs.Sent.{envelopes, beside_sends}
 use Rattle.roc_law_world.proofs.TickSends.{of_transaction}
 use Rattle.roc_law_world.proofs.Coordinators.{IsCoordSound}
 use Rattle.roc_base.specs.declared.node.Shard.{Shard}
@@ -103,7 +104,7 @@ module _ (plan : Plan) (is_view : TxnId → Bool) where
           undelivered = q.undelivered;
           history =
               ap (λ l. l ++ ours) b.history
-              ∙ (ap (λ l. without_views is_view w.history ++ l) (sym only) ∙ sym (filter_append (λ e. not (is_view (entry_id e))) w.history told));
+              ∙ (ap (λ l. without_views is_view w.history ++ l) (sym only) ∙ sym (filter-append (λ e. not (is_view (entry_id e))) w.history told));
           order = b.order;
         }
 

@@ -26,8 +26,8 @@ use Rattle.roc_law_world.specs.World.{World}
 use Rattle.roc_law_world.specs.Beside.{is_of_view}
 use Rattle.roc_law_world.proofs.Comings.{Came}
 use Rattle.roc_law_world.proofs.ServerMarks.{IsAbove}
-use Rattle.roc_law_world.proofs.CoordMarks.{mark_least}
 use Rattle.roc_law_world.proofs.KeptReads.{IsHeld}
+use Rattle.roc_law_protocol.proofs.Marks.{mark_least}
 
 -- the coordinator of t, where it is there, tells a watermark above it
 abbrev pub IsPassed : List CoordState → TxnId → Type 0

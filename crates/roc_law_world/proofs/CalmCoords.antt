@@ -19,6 +19,7 @@ use Rattle.roc_readonly.specs.Round.{read_shard}
 use Rattle.roc_audit.specs.declared.entry.Entry.{Entry}
 use Rattle.roc_audit.specs.declared.entry.Entry.TheVariants.{Submitted, Answered}
 use Rattle.roc_audit.specs.History.{WasSubmitted}
+use Rattle.roc_audit.proofs.Histories.{submitted_front}
 use Rattle.roc_law_protocol.specs.World.{sent_by}
 use Rattle.roc_law_world.specs.World.{World}
 use Rattle.roc_law_world.proofs.ServerMarks.{IsAbove}
@@ -26,13 +27,9 @@ use Rattle.roc_law_world.proofs.Comings.{Came}
 use Rattle.roc_law_world.proofs.Calm.{IsPassed, IsOfSubmitted, IsOpen, Fits, Done, IsCalm, KeepsViews, AreCalm, calm_on}
 use Rattle.roc_law_protocol.proofs.Changed.{get-set_here, get-set_other, get-set_cases}
 
--- what was submitted was so before more is told
-pub submitted_more : (history told : List Entry) (t : TxnId) → WasSubmitted history t → WasSubmitted (history ++ told) t
-submitted_more history told t k = (k.0, k.1, has_left (Submitted t k.0 k.1) history told k.2)
-
 pub of_submitted_more : (history told : List Entry) (msg : Msg) → IsOfSubmitted history msg → IsOfSubmitted (history ++ told) msg
-of_submitted_more history told (Read id round proc group args) k = submitted_more history told id k
-of_submitted_more history told (ReadOk id round group shard vs outs) k = submitted_more history told id k
+of_submitted_more history told (Read id round proc group args) k = submitted_front history told id k
+of_submitted_more history told (ReadOk id round group shard vs outs) k = submitted_front history told id k
 of_submitted_more history told msg k = tt
 
 module _ (plan : Plan) (w : World) (n : ℕ) (s after : CoordState) (outs : List Outgoing) (told : List Entry) (u : World) where
@@ -138,7 +135,7 @@ module _ (plan : Plan) (w : World) (n : ℕ) (s after : CoordState) (outs : List
           kept = λ j z at d h.
               (let b = a.kept j z (viewing_was j z at) d h in
               record {
-                submitted = subst (λ l. WasSubmitted l d.id) (sym i.history) (submitted_more w.history told d.id b.submitted);
+                submitted = subst (λ l. WasSubmitted l d.id) (sym i.history) (submitted_front w.history told d.id b.submitted);
                 server = b.server;
                 there = subst (λ l. slice_get l j ≡ Some b.server) (sym i.servers) b.there;
                 held = b.held;

@@ -36,12 +36,13 @@ use Rattle.roc_law_world.proofs.Sent.{AreOfTransactions}
 use Rattle.roc_law_world.proofs.ServerSends as server_sends
 use Rattle.roc_law_world.proofs.ServerMarks.{IsAbove, KeepsMarks, keeps_marks, tick_marks}
 use Rattle.roc_law_world.proofs.ViewServed.{with_cases}
-use Rattle.roc_law_world.proofs.ReadCounts.{uses_counted, outs_counted}
+use Rattle.roc_law_world.proofs.ReadCounts.{uses_counted}
 use Rattle.roc_law_world.proofs.KeptReads.{was_there, kept_or_told, kept_was, ignored_was, told_is, kept_is_held, brought}
 use Rattle.roc_law_world.proofs.Comings.{came_sends, came_or_comes}
 use Rattle.roc_law_world.proofs.Calm.{IsPassed, IsOfSubmitted, transactions_submitted, read_of, IsFor, Fits, transactions_fit, IsKept, IsTold, Done, IsCalm, KeepsHeld, AreCalm, calm_on, open_not_passed}
 use Rattle.roc_law_protocol.proofs.Stops.{set_there}
 use Rattle.roc_law_protocol.proofs.Changed.{get-set_here, get-set_other, get-set_cases}
+use Rattle.roc_law_plans.proofs.OfPlan.{group_long}
 
 the_server : (a b : ℕ) → Server (record { 0 = a }) ≡ Server (record { 0 = b }) → a ≡ b
 the_server a b e = ap (λ (s : Shard). s.0) (the_shard (record { 0 = a }) (record { 0 = b }) e)
@@ -131,7 +132,7 @@ module _ (plan : Plan) (accepted : IsAccepted plan) (w : World) (a : AreCalm pla
           length-map (read_uses plan r.state y) (λ (a : Access). version counts a.cell)
           ∙ (uses_counted plan (read_call y) r.state.store accepted viewed ∙ ap (λ p. length (bound_of plan p y.group)) f.procedure)
           in
-          let given : length outs ≡ length (outs_of plan v.proc y.group) = outs_counted plan (read_call y) r.state.store ∙ ap (λ p. length (outs_of plan p y.group)) f.procedure in
+          let given : length outs ≡ length (outs_of plan v.proc y.group) = group_long plan (read_call y) r.state.store ∙ ap (λ p. length (outs_of plan p y.group)) f.procedure in
           let here : (read_shard plan v y.group).0 ≡ r.state.shard.0 = f.here ∙ sym (ap (λ (s : Shard). s.0) marks.shard ∙ a.shards n s x.there) in (
             ap (λ (t : TxnId). Coord t.coord) same,
             record {

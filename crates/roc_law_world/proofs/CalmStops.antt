@@ -1,5 +1,5 @@
 -- Open views behind a stop of a server: what is said of messages that came is said of those of which a delivery counts
-use Rattle.std.proofs.Common.{◌≡◌, ◌≢◌, ◌∙◌, ◌⊎◌, inl, inr, ℕ, zero, suc, ◌+◌, ◌-◌, ◌<◌, ◌≤◌, ◌==◌, Bool, true, false, not, cond, List, [], ◌∷◌, ◌++◌, Option, Some, map, length, refl, sym, ap, subst, arith, append-nil, append_assoc}
+use Rattle.std.proofs.Common.{◌≡◌, ◌≢◌, ◌∙◌, ◌⊎◌, inl, inr, ℕ, zero, suc, ◌+◌, ◌-◌, ◌<◌, ◌==◌, Bool, true, false, not, cond, List, [], ◌∷◌, ◌++◌, Option, Some, map, length, refl, sym, ap, subst, arith, append-nil, append_assoc}
 use Rattle.std.proofs.lemmas.Bool.{false≢true, eqb-true, eq-eqb}
 use Rattle.std.proofs.lemmas.List.{length-append}
 use Rattle.std.specs.Prelude.{slice_get, slice_set}
@@ -27,6 +27,7 @@ use Rattle.roc_law_protocol.specs.World.{sent_by}
 use Rattle.roc_law_protocol.specs.Quiet.{Counts}
 use Rattle.roc_law_protocol.proofs.Changed.{get-set_other, get-set_cases}
 use Rattle.roc_law_protocol.proofs.Counting.{counts_step, none_counts}
+use Rattle.roc_law_protocol.proofs.Deliveries.{range_from}
 use Rattle.roc_law_world.specs.World.{World, at_server}
 use Rattle.roc_law_world.proofs.Comings.{Came}
 use Rattle.roc_law_world.proofs.Calm.{Fits, Done, IsCalm, AreCalm}
@@ -40,11 +41,6 @@ pub record AreCounted (events : List (Option Event)) (sent : List Envelope) (unc
 
 pub begun_counted : AreCounted [] [] []
 begun_counted = record { counted = λ k c. absurd (none_counts [] (suc k) c); placed = λ k c. absurd (none_counts [] (suc k) c) }
-
-range_from : (a n k : ℕ) → Has k (range_with_len a n) → a ≤ k
-range_from a zero k h = elim h [ ]
-range_from a (suc n) k (inl e) = omega (arith, e)
-range_from a (suc n) k (inr h) = let l = range_from (a + 1) n k h in omega arith
 
 not_same : (k : ℕ) → not (k == k) ≡ true → ⊥
 not_same k e = false≢true (sym (ap not (eq-eqb k k refl)) ∙ e)

@@ -1,5 +1,5 @@
 -- Which messages were delivered, as the network grows
-use Rattle.std.proofs.Common.{◌≡◌, ◌⊎◌, inl, inr, ℕ, suc, ◌+◌, ◌-◌, ◌<◌, ◌==◌, not, List, [], ◌∷◌, ◌++◌, Some, map, length, sym, ap, subst, arith}
+use Rattle.std.proofs.Common.{◌≡◌, ◌⊎◌, inl, inr, ℕ, suc, ◌+◌, ◌-◌, ◌<◌, ◌==◌, not, List, ◌++◌, Some, map, length, subst, arith}
 use Rattle.std.proofs.lemmas.Bool.{cases_eq, cases_lt, eqb-true, not_from_false, false_from_ne_true}
 use Rattle.std.proofs.lemmas.List.{length-map, length-append}
 use Rattle.std.proofs.lemmas.Option.{slice_get_within}
@@ -13,7 +13,7 @@ use Rattle.roc_msg.specs.declared.msg.Envelope.{Envelope}
 use Rattle.roc_msg.specs.declared.outbox.Outgoing.{Outgoing}
 use Rattle.roc_law_protocol.specs.World.{sent_by}
 use Rattle.roc_law_world.specs.World.{World, sends, mark_delivered}
-use Rattle.roc_law_world.proofs.Sent.{found_front}
+use Rattle.roc_law_world.proofs.RankedNumbers.{found_front}
 
 -- the message was delivered
 abbrev pub Came : World → Envelope → Type 0
@@ -21,12 +21,6 @@ Came w m = (k : ℕ) × (slice_get w.sent k ≡ Some m) × (¬ Has (suc k) w.und
 
 pub came_sent : (w : World) (m : Envelope) → Came w m → Has m w.sent
 came_sent w m c = has_at w.sent c.0 m c.1
-
--- what is in a list stands at a place
-pub stands_at : {A : Type 0} (xs : List A) (a : A) → Has a xs → (k : ℕ) × (slice_get xs k ≡ Some a)
-stands_at [] a h = absurd h
-stands_at (x ∷ xs) a (inl e) = (0, ap Some (sym e))
-stands_at (x ∷ xs) a (inr h) = let q = stands_at xs a h in (suc q.0, q.1)
 
 -- what was delivered once a node has sent was delivered before
 pub came_sends : (w : World) (from : Node) (outs : List Outgoing) (m : Envelope) → Came (sends w from outs) m → Came w m

@@ -44,15 +44,6 @@ least_left p (id ∷ ids) next = go (p id) (least_left p ids next)
     go true h = omega arith
     go false h = omega arith
 
--- none of them is below it
-least_of : (id : TxnId) (ids : List TxnId) (next : ℕ) → Has id ids → least_seq ids next ≤ id.seq
-least_of id [] next h = absurd h
-least_of id (u ∷ us) next (inl e) = let same : id.seq ≡ u.seq = ap (λ (t : TxnId). t.seq) e in omega arith
-least_of id (u ∷ us) next (inr h) = let rest = least_of id us next h in omega arith
-
-pub mark_least : (s : CoordState) (id : TxnId) → Has id s.unanswered → watermark s ≤ id.seq
-mark_least s id h = least_of id s.unanswered s.next h
-
 -- nor does it where the next is given
 pub least_more : (ids : List TxnId) (id : TxnId) (next : ℕ) → id.seq ≡ next → least_seq ids next ≤ least_seq (ids ++ id ∷ []) (next + 1)
 least_more [] id next e = omega arith

@@ -33,8 +33,9 @@ use Rattle.roc_audit.specs.declared.entry.Entry.TheVariants as entry
 use Rattle.roc_audit.specs.Woven.{without_views}
 use Rattle.roc_law_protocol.specs.Happens.{answer_entries}
 use Rattle.roc_law_protocol.specs.Aside.{KeepsTransactions, Asides, reads, ends}
+use Rattle.roc_law_protocol.proofs.Tells.{all_kept}
 use Rattle.roc_law_world.specs.Beside.{is_of_view}
-use Rattle.roc_law_world.proofs.Sent.{filter_all, AreOfTransactions, AreOfViews}
+use Rattle.roc_law_world.proofs.Sent.{AreOfTransactions, AreOfViews}
 use Rattle.roc_law_world.proofs.TickSends.{are_endeds}
 use Rattle.roc_law_world.proofs.Coordinators.{IsCoordSound, pending_no_view, sound_same, sound_less, ids_left}
 
@@ -197,7 +198,7 @@ module _ (plan : Plan) (is_view : TxnId → Bool) (s : CoordState) (o : IsCoordS
           apart x h false e = ap not e
 
           none_less : ids_of s.pending ≡ filter (λ u. not (is_txn u v.id)) (ids_of s.pending)
-          none_less = sym (filter_all (λ u. not (is_txn u v.id)) (ids_of s.pending) (λ t h. let q = from_has_map (λ (x : Transaction). x.id) t s.pending h in ap (λ t. not (is_txn t v.id)) q.2 ∙ apart q.0 q.1 (is_txn q.0.id v.id) refl))
+          none_less = sym (all_kept (λ u. not (is_txn u v.id)) (ids_of s.pending) (λ t h. let q = from_has_map (λ (x : Transaction). x.id) t s.pending h in ap (λ t. not (is_txn t v.id)) q.2 ∙ apart q.0 q.1 (is_txn q.0.id v.id) refl))
 
       refused : (r : Option Reason) → IsForViews (unless_refused s r (readok_taken plan s taken (round_of plan taken)))
       refused (Some reason) = is_nothing refl refl reason refl

@@ -1,6 +1,7 @@
 -- Each step of a coordinator is one of transactions, or one aside of them
 use Rattle.std.proofs.Common.{◌≡◌, ◌∙◌, inl, inr, ◌+◌, ◌<◌, Bool, true, false, not, cond, List, [], ◌∷◌, ◌++◌, refl, sym, ap, subst, arith}
 use Rattle.std.proofs.lemmas.Bool.{not-true}
+use Rattle.std.proofs.lemmas.List.Elements.{filter-append}
 use Rattle.std.specs.List.{filter}
 use Rattle.roc_sequence.specs.Lists.{Has}
 use Rattle.roc_sequence.specs.Places.{IsListed, NoneTwice}
@@ -16,7 +17,6 @@ use Rattle.roc_readonly.specs.declared.view.View.{View}
 use Rattle.roc_coord.specs.Ids.{ids_of}
 use Rattle.roc_coord.specs.State.{CoordState}
 use Rattle.roc_law_world.proofs.TickSends.{IsSound}
-use Rattle.roc_law_world.proofs.Sent.{filter_append}
 
 -- what is kept of a coordinator in every run: its ids, and which are of views
 pub record IsCoordSound (is_view : TxnId → Bool) (s : CoordState) : Type 0 where
@@ -64,7 +64,7 @@ ids_left id (x ∷ xs) = go (is_txn x.id id) (ids_left id xs)
 
 -- one more stands behind, if it passes
 filter_one_more : {A : Type 0} (p : A → Bool) (xs : List A) (x : A) (b : Bool) → p x ≡ b → filter p (xs ++ x ∷ []) ≡ filter p xs ++ cond b (x ∷ []) []
-filter_one_more p xs x b e = filter_append p xs (x ∷ []) ∙ ap (λ c. filter p xs ++ cond c (x ∷ []) []) e
+filter_one_more p xs x b e = filter-append p xs (x ∷ []) ∙ ap (λ c. filter p xs ++ cond c (x ∷ []) []) e
 
 pub ids_more : (xs : List Transaction) (x : Transaction) → ids_of (xs ++ x ∷ []) ≡ ids_of xs ++ x.id ∷ []
 ids_more [] x = refl

@@ -1,5 +1,6 @@
 -- What a server answers to a fetch it answers beside
 use Rattle.std.proofs.Common.{◌≡◌, ◌∙◌, ℕ, zero, suc, ◌-◌, Bool, true, not, List, ◌++◌, Some, sym, ap, subst, arith}
+use Rattle.std.proofs.lemmas.List.Elements.{filter-append}
 use Rattle.std.specs.Prelude.{slice_get}
 use Rattle.roc_sequence.specs.Lists.{Has}
 use Rattle.roc_sequence.proofs.Members.{same_there, has_filter, from_has_filter}
@@ -17,7 +18,6 @@ use Rattle.roc_law_world.specs.World.{World, mark_delivered}
 use Rattle.roc_law_world.specs.Happens.{Outcome, IsReceived, Happens}
 use Rattle.roc_law_world.specs.Beside.{is_of_view, is_of_transaction, of_transactions, number_among}
 use Rattle.roc_law_world.proofs.Besides.{Holds}
-use Rattle.roc_law_world.proofs.Sent.{filter_append}
 use Rattle.roc_law_world.proofs.Steps.{served_there}
 
 module _ (plan : Plan) (is_view : TxnId → Bool) (w : World) (t : transactions.World) (h : Holds plan is_view w t) where
@@ -47,7 +47,7 @@ module _ (plan : Plan) (is_view : TxnId → Bool) (w : World) (t : transactions.
         more = of_transactions more;
         found = s.found;
         happens = s.happens;
-        grown = s.sent ∙ (ap of_transactions grown ∙ (filter_append is_of_transaction w.sent more ∙ ap (λ l. l ++ of_transactions more) (sym h.beside.sent)));
+        grown = s.sent ∙ (ap of_transactions grown ∙ (filter-append is_of_transaction w.sent more ∙ ap (λ l. l ++ of_transactions more) (sym h.beside.sent)));
         there = λ e y mark settled has. has_filter is_of_transaction e more has (ap (λ msg. not (is_of_view msg)) settled);
         back = λ e has. (from_has_filter is_of_transaction e more has).0;
       }

@@ -23,6 +23,7 @@ use Rattle.roc_coord.specs.State.{CoordState}
 use Rattle.roc_coord.specs.Step.{after_message}
 use Rattle.roc_coord.specs.Submit.{Submission, next_id, new_transaction, accepted, accepted_view, after_submit}
 use Rattle.roc_coord.specs.Tick as coord
+use Rattle.roc_coord.proofs.Keeping.{all_filter}
 use Rattle.roc_readonly.specs.declared.view.View.{View}
 use Rattle.roc_readonly.specs.Fits.{IsViewOf}
 use Rattle.roc_readonly.specs.Round.{first_round}
@@ -37,7 +38,6 @@ use Rattle.roc_law_protocol.specs.Happens.{answer_entries}
 use Rattle.roc_law_protocol.specs.World.{sent_by}
 use Rattle.roc_law_protocol.proofs.Changed.{get-set_cases}
 use Rattle.roc_law_protocol.proofs.CoordsHere.{IsHeld}
-use Rattle.roc_law_protocol.proofs.Named.{all_filter}
 use Rattle.roc_law_protocol.proofs.ServersHere as servers
 use Rattle.roc_law_protocol.proofs.SubmissionEnds.{IsAnySubmission, any_submission_is, unknown, miscounted, spent, busy, taken}
 use Rattle.roc_law_protocol.proofs.WorldsFit.{numbers_sent, begun_fits as their_begun_fits}

@@ -50,12 +50,12 @@ use Rattle.roc_law_protocol.specs.declared.event.Kept.{Kept}
 use Rattle.roc_law_protocol.specs.Happens.{server_seen, coord_seen}
 use Rattle.roc_law_protocol.specs.World.{sent_by}
 use Rattle.roc_law_protocol.proofs.ForgottenHere.{forgotten, over_of}
+use Rattle.roc_law_protocol.proofs.Rounds.{filter_none}
 use Rattle.roc_law_world.specs.World.{World, mark_delivered}
 use Rattle.roc_law_world.specs.Happens.{Outcome, Submits, IsReceived, IsServed, StopsIn, at_rest, unrecorded, recorded, restarted}
 use Rattle.roc_law_world.specs.Run.{Transition}
 use Rattle.roc_law_world.proofs.Calm.{AreCalm}
 use Rattle.roc_law_world.proofs.KeptReads.{IsHeld}
-use Rattle.roc_law_world.proofs.Sent.{filter_none}
 
 -- ---- a server's step
 

@@ -1,4 +1,5 @@
 pub mod Ranks
+pub mod RankedNumbers
 pub mod Sent
 pub mod TickSends
 pub mod Coordinators

@@ -9,8 +9,6 @@ use Rattle.roc_base.specs.declared.node.Node.{Node}
 use Rattle.roc_base.specs.declared.node.Node.TheVariants.{Server, Coord}
 use Rattle.roc_msg.specs.declared.outbox.Outgoing.{Outgoing}
 use Rattle.roc_plan.specs.Groups.{Plan, is_view_of}
-use Rattle.roc_coord.specs.declared.handled.Handled.{Handled}
-use Rattle.roc_coord.specs.declared.handled.Handled.TheVariants as coord_answer
 use Rattle.roc_coord.specs.declared.handled.SubmitFault.{SubmitFault}
 use Rattle.roc_coord.specs.declared.handled.SubmitFault.TheVariants as fault
 use Rattle.roc_coord.specs.State.{CoordState}
@@ -18,7 +16,7 @@ use Rattle.roc_coord.specs.Step.{after_message}
 use Rattle.roc_coord.specs.Submit.{next_id, new_transaction, accepted, accepted_view, refusal_of, refused_or_accepted}
 use Rattle.roc_readonly.specs.Round.{first_round}
 use Rattle.roc_audit.specs.declared.entry.Entry.{Entry}
-use Rattle.roc_audit.specs.declared.entry.Entry.TheVariants.{Submitted, Answered}
+use Rattle.roc_audit.specs.declared.entry.Entry.TheVariants.{Submitted}
 use Rattle.roc_law_protocol.specs.Beginnings as protocol
 use Rattle.roc_law_protocol.specs.declared.event.Event.{Event}
 use Rattle.roc_law_protocol.specs.declared.event.Event.TheVariants.{Submit, Deliver, Tick, Stop}
@@ -27,7 +25,7 @@ use Rattle.roc_law_protocol.proofs.Firsts.{found_at}
 use Rattle.roc_law_world.specs.World.{World, Beginning, mark_delivered, at_coord}
 use Rattle.roc_law_world.specs.Happens.{Outcome, IsReceived, IsSubmissionOf}
 use Rattle.roc_law_world.specs.Run.{Stepped, Transition, IsRunFrom, at_beginning, steps_on}
-use Rattle.roc_law_protocol.proofs.Submissions.{keeps_number}
+use Rattle.roc_law_protocol.proofs.Submissions.{keeps_number, no_submission}
 use Rattle.roc_law_world.proofs.Stops.{by_losing}
 use Rattle.roc_law_protocol.proofs.Changed.{get-set_here, get-set_other, get-set_cases}
 
@@ -110,15 +108,6 @@ more w o n s after there number next proc args outs =
         let y = the_parts t (next_id s) q proc b args (has_one (Submitted t q b) (Submitted (next_id s) proc args) i) in
         (x.1.0 ∙ sym y.1.0, x.1.1 ∙ sym y.1.1)
 
-not_told : (a : Handled) (t : TxnId) (p : ℕ) (l : List ℤ) → ¬ Has (Submitted t p l) (answer_entries a)
-not_told (coord_answer.Answered id reply) t p l (inl e) = apart e
-  where
-    apart : Submitted t p l ≢ Answered id reply
-    apart e = cc
-not_told (coord_answer.Answered id reply) t p l (inr h) = h
-not_told coord_answer.Done t p l h = h
-not_told (coord_answer.Ignored reason) t p l h = h
-
 pub numbered_step : (plan : Plan) (w : World) → IsNumbered w → (e : Option Event) (o : Outcome) → Transition plan w e o → IsNumbered o.world
 numbered_step plan w o None u h = subst (λ (u : Outcome). IsNumbered u.world) (sym h) o
 numbered_step plan w o (Some (Submit n proc args)) u (s, there, h) = go (refusal_of plan s proc args) h
@@ -144,7 +133,7 @@ numbered_step plan w o (Some (Deliver k)) u (m, some, there, h) = go m.to h
         let next = kept.next in
         subst (λ (u : Outcome). IsNumbered u.world) (sym e)
         (still (mark_delivered w k) (record { numbers = o.numbers; given = o.given; one = o.one }) n s r.state at kept.number (omega (arith, next)) (at_coord (mark_delivered w k) n r.state r.sends (answer_entries r.answer)) refl
-        (answer_entries r.answer) refl (not_told r.answer))
+        (answer_entries r.answer) refl (no_submission r.answer))
 numbered_step plan w o (Some (Tick (Server shard))) u (s, v, there, keeps, e) = subst (λ (u : Outcome). IsNumbered u.world) (sym e) (record { numbers = o.numbers; given = o.given; one = o.one })
 numbered_step plan w o (Some (Tick (Coord n))) u (s, there, e) = subst (λ (u : Outcome). IsNumbered u.world) (sym e) (record { numbers = o.numbers; given = o.given; one = o.one })
 numbered_step plan w o (Some (Stop shard during)) u x =

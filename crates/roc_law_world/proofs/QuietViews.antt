@@ -19,10 +19,11 @@ use Rattle.roc_readonly.specs.declared.view.View.{View}
 use Rattle.roc_readonly.specs.Round.{view_groups, find_read, read_shard, is_full}
 use Rattle.roc_audit.specs.declared.entry.Entry.TheVariants.{Submitted, Answered}
 use Rattle.roc_law_protocol.specs.Quiet as transactions
+use Rattle.roc_law_protocol.proofs.Undelivered.{number_of}
 use Rattle.roc_law_world.specs.Quiet.{WritesFor, PrecedesIn, is_told, writes_for, AreDelivered, IsQuiet, IsInLastRound}
 use Rattle.roc_law_world.specs.Run.{Stepped}
 use Rattle.roc_law_world.specs.World.{World}
-use Rattle.roc_law_world.proofs.Comings.{Came, stands_at}
+use Rattle.roc_law_world.proofs.Comings.{Came}
 use Rattle.roc_law_world.proofs.RoundReads.{group_there}
 use Rattle.roc_law_world.proofs.Calm.{read_of, IsKept, Done, IsCalm, AreCalm}
 
@@ -40,7 +41,7 @@ module _ (plan : Plan) (w : World) (uncounted : List ℕ) (a : AreCalm plan (rec
 
     -- each message of it in the network was delivered
     its_came : (m : Envelope) → Has m w.sent → (msg : Msg) → m.msg ≡ msg → id_of msg ≡ Some v.id → Came (record w { undelivered = uncounted }) m
-    its_came m h msg is of = let p = stands_at w.sent m h in (p.0, p.1, counted p.0 (quiet.each p.0 m t p.1 (ap id_of is ∙ (of ∙ ap (λ t. Some t) id)) (inl refl)))
+    its_came m h msg is of = let p = number_of w.sent m h in (p.0, p.1, counted p.0 (quiet.each p.0 m t p.1 (ap id_of is ∙ (of ∙ ap (λ t. Some t) id)) (inl refl)))
 
     -- no read of the round under way is kept: who holds it up precedes the view, and so is decided
     none_kept : (g : ℕ) → ¬ IsKept plan w.viewing v g

@@ -48,6 +48,7 @@ use Rattle.roc_law_world.proofs.ViewsStay.{kept_on, answered_on, rounds_on, for_
 use Rattle.roc_law_world.proofs.RoundReads.{no_looks, one_look, IsReadOf, reads_are, group_there, read_id, read_no_ok}
 use Rattle.roc_law_world.proofs.ViewRounds.{found_one, number, view_replaced}
 use Rattle.roc_law_protocol.proofs.Changed.{get-set_here, get-set_other, get-set_cases}
+use Rattle.roc_law_protocol.proofs.Grows.{flat_map_same}
 
 module _ (plan : Plan) (calls : TxnId → whole.Call) (asked : TxnId → whole.Call) (S : Scheme) (start : protocol.Beginning) (before : ℕ → Counts) where
   abbrev Mean : World → Log → Type 0
@@ -182,14 +183,10 @@ module _ (plan : Plan) (calls : TxnId → whole.Call) (asked : TxnId → whole.C
             go (Some a) ea None eb e = absurd (false≢true e)
             go None ea b eb e = absurd (false≢true e)
 
-        flat_alike : (f g : ℕ → List ℤ) (xs : List ℕ) → ((x : ℕ) → Has x xs → f x ≡ g x) → flat_map f xs ≡ flat_map g xs
-        flat_alike f g [] h = refl
-        flat_alike f g (x ∷ xs) h = ap (λ l. l ++ flat_map f xs) (h x (inl refl)) ∙ ap (λ l. g x ++ l) (flat_alike f g xs (λ y k. h y (inr k)))
-
         -- so the reply is that behind the order as it was when the round began
         reads_behind : view_reply plan (with_readok v ok) ≡ reply_behind plan calls asked S start before (m.views n s there v has).since.order v.id
         reads_behind =
-            flat_alike (λ g. outs_in (find_read g (with_readok v ok).got)) _ (view_groups plan (with_readok v ok)) one_reading
+            flat_map_same (λ g. outs_in (find_read g (with_readok v ok).got)) _ (view_groups plan (with_readok v ok)) one_reading
             ∙ ap (λ p. flat_map (λ g. (group_run plan (call (proc_of plan calls v.id) g (args_of plan calls v.id) []) (stage_behind S.behaviour start.store (one_by_one S.behaviour (m.views n s there v has).since.order)).store).reply) (range_with_len 0 (length (groups_of plan p)))) (m.views n s there v has).procedure
 
         abbrev ended : World

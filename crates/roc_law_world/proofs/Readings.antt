@@ -38,6 +38,7 @@ use Rattle.roc_law_protocol.specs.PlanAssumptions.{use_of, IsSchemeOf}
 use Rattle.roc_law_protocol.specs.Beginnings.{Beginning}
 use Rattle.roc_law_protocol.proofs.Means.{run_of, entry_run, ServerMeans}
 use Rattle.roc_law_world.proofs.Versions.{most, on_place}
+use Rattle.roc_program.proofs.Ranges.{map_map}
 
 -- what the laws of groups say of views
 pub record ViewLaws (plan : Plan) : Type 0 where
@@ -58,10 +59,6 @@ AreSteady S start =
 map_alike : {A B : Type 0} (f g : A → B) (xs : List A) → ((x : A) → Has x xs → f x ≡ g x) → map f xs ≡ map g xs
 map_alike f g [] h = refl
 map_alike f g (x ∷ xs) h = ap (λ y. y ∷ map f xs) (h x (inl refl)) ∙ ap (λ l. g x ∷ l) (map_alike f g xs (λ y k. h y (inr k)))
-
-map_twice : {A B C : Type 0} (f : B → C) (g : A → B) (xs : List A) → map f (map g xs) ≡ map (λ x. f (g x)) xs
-map_twice f g [] = refl
-map_twice f g (x ∷ xs) = ap (λ l. f (g x) ∷ l) (map_twice f g xs)
 
 -- lists that two functions make alike are made alike at each place
 alike_there : {A : Type 0} (f g : A → ℕ) (xs : List A) → map f xs ≡ map g xs → (x : A) → Has x xs → f x ≡ g x
@@ -167,7 +164,7 @@ module _ (plan : Plan) (asked : TxnId → whole.Call) (S : Scheme) (start : Begi
             clean = clean;
             versions =
                 ap (map (λ (a : Access). version vs a.cell)) same_uses
-                ∙ (sym (map_twice (version vs) (λ (a : Access). a.cell) (group_uses plan (read_call q) start.store))
+                ∙ (sym (map_map (version vs) (λ (a : Access). a.cell) (group_uses plan (read_call q) start.store))
                 ∙ map_alike (version vs) (version_in log) (cells_of q.proc q.group q.args) (λ x h. counts x (used_here x h)));
             gave = sym (laws.same (read_call q) s.store (stage_behind S.behaviour start.store log.past.ran).store
                 (has_all (λ (a : Access). a.writes ≡ false → read s.store a.cell ≡ read (stage_behind S.behaviour start.store log.past.ran).store a.cell) (group_uses plan (read_call q) s.store)

@@ -41,12 +41,13 @@ use Rattle.roc_law_world.specs.World.{World}
 use Rattle.roc_law_world.specs.Beside.{is_of_view}
 use Rattle.roc_law_world.proofs.Coordinators.{IsCoordSound}
 use Rattle.roc_law_world.proofs.CoordSteps.{for_transactions, are_marks}
-use Rattle.roc_law_world.proofs.ReadCounts.{uses_counted, outs_counted}
+use Rattle.roc_law_world.proofs.ReadCounts.{uses_counted}
 use Rattle.roc_law_world.proofs.RoundReads.{group_there}
 use Rattle.roc_law_world.proofs.Sent.{AreOfTransactions}
 use Rattle.roc_law_world.proofs.TickSends.{again_transactions, are_endeds}
 use Rattle.roc_law_world.proofs.ViewMeans.{proc_of, args_of, is_view_id}
 use Rattle.roc_law_world.proofs.ViewServed.{turn_has, with_cases}
+use Rattle.roc_law_plans.proofs.OfPlan.{group_long}
 
 module _ (plan : Plan) (calls : TxnId → whole.Call) where
   -- a group of a view is read for on its shard
@@ -149,7 +150,7 @@ module _ (plan : Plan) (calls : TxnId → whole.Call) where
       readok_fits : (x : KeptRead) → IsReadAt x.id x.proc x.group x.args n → MessageFits (readok_of plan r.state counts x).msg (readok_of plan r.state counts x).to
       readok_fits x f =
           let uses = length-map (read_uses plan r.state x) (λ (a : Access). version counts a.cell) ∙ uses_counted plan (read_call x) r.state.store accepted f.view in
-          let outs = outs_counted plan (read_call x) r.state.store in (
+          let outs = group_long plan (read_call x) r.state.store in (
             refl,
             record {
               view = ap (is_view_of plan) (sym f.procedure) ∙ f.view;

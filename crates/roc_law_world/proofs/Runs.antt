@@ -123,14 +123,14 @@ pub record AreCountsBeside (events others : List (Option Event)) (w : World) (t 
   pub placed : (k : ℕ) → quiets.Counts events w.sent (suc k) → k < length w.sent
   pub counts : (k : ℕ) (m : Envelope) → slice_get w.sent k ≡ Some m → is_of_transaction m ≡ true → quiets.Counts events w.sent (suc k) → quiets.Counts others t.sent (suc (number_among w.sent k))
 
-stop_of : (f : Option Event) (to : Node) → quiets.StopsReceiver f to → (shard : Shard) × (during : Option (ℕ × Kept)) × (f ≡ Some (Stop shard during)) × (to ≡ Server shard)
+pub stop_of : (f : Option Event) (to : Node) → quiets.StopsReceiver f to → (shard : Shard) × (during : Option (ℕ × Kept)) × (f ≡ Some (Stop shard during)) × (to ≡ Server shard)
 stop_of (Some (Stop shard during)) to s = (shard, during, refl, s)
 stop_of (Some (Submit n proc args)) to s = absurd s
 stop_of (Some (Deliver k)) to s = absurd s
 stop_of (Some (Tick node)) to s = absurd s
 stop_of None to s = absurd s
 
-less_of : (k : ℕ) → suc k - 1 ≡ k
+pub less_of : (k : ℕ) → suc k - 1 ≡ k
 less_of k = omega arith
 
 module _ (plan : Plan) (is_view : TxnId → Bool) (events others : List (Option Event)) (w : World) (t : worlds.World) (h : Holds plan is_view w t) (c : AreCountsBeside events others w t) (e : Option Event) (o : Outcome) (moved : Transition plan w e o)

@@ -1,19 +1,16 @@
 -- The watermarks that a server hears and tells
-use Rattle.std.proofs.Common.{◌≡◌, ◌∙◌, ◌⊎◌, inl, inr, ℕ, ◌<◌, ◌&&◌, Bool, true, false, not, List, [], ◌∷◌, ◌++◌, Option, Some, None, map, refl, sym, ap, subst, arith}
+use Rattle.std.proofs.Common.{◌≡◌, ◌∙◌, ◌⊎◌, inl, ℕ, ◌<◌, ◌&&◌, Bool, true, false, not, List, [], ◌∷◌, Option, Some, None, refl, sym, subst, arith}
 use Rattle.std.proofs.lemmas.Bool.{false≢true}
 use Rattle.std.proofs.lemmas.Bool.Decides.{nat_tests}
-use Rattle.std.specs.Prelude.{flat_map, filter, nat_lt, max, if◌then◌else◌}
+use Rattle.std.specs.Prelude.{flat_map, if◌then◌else◌}
 use Rattle.roc_sequence.specs.Lists.{Has}
-use Rattle.roc_sequence.specs.Places.{is_listed}
-use Rattle.roc_sequence.proofs.Members.{has_append, has_one, from_has_map, from_has_flat_map}
+use Rattle.roc_sequence.proofs.Members.{has_one}
 use Rattle.roc_base.specs.declared.id.TxnId.{TxnId}
 use Rattle.roc_base.specs.declared.node.Shard.{Shard}
-use Rattle.roc_base.specs.TxnId.{is_txn}
 use Rattle.roc_base.specs.Edge.{Dependency}
 use Rattle.roc_depgraph.specs.declared.known.KnownList.{KnownList}
-use Rattle.roc_depgraph.specs.Deps.{list_of, is_known}
-use Rattle.roc_step.specs.declared.waits.OpenFetch.{OpenFetch}
-use Rattle.roc_step.specs.Waits.{was_asked_for, askers_of}
+use Rattle.roc_depgraph.specs.Deps.{list_of}
+use Rattle.roc_step.specs.Waits.{was_asked_for}
 use Rattle.roc_msg.specs.declared.msg.Msg.{Msg}
 use Rattle.roc_msg.specs.declared.msg.Msg.TheVariants.{Start, Commit, Fetch, Known, Ended, Settled, Read}
 use Rattle.roc_msg.specs.declared.outbox.Outgoing.{Outgoing}
@@ -23,37 +20,25 @@ use Rattle.roc_group.specs.GroupRun.{GroupCall, call}
 use Rattle.roc_step.specs.declared.started.StartedGroup.{StartedGroup}
 use Rattle.roc_step.specs.declared.handled.Handled.{Handled}
 use Rattle.roc_step.specs.declared.handled.Handled.TheVariants.{Gone}
-use Rattle.roc_step.specs.Below.{mark_of, is_ended, raised}
-use Rattle.roc_step.proofs.Raised.{set_cases}
-use Rattle.roc_step.specs.State.{refused, ignored, answered, hearing, is_here, find_group, Lists, ServerState, ServerStep}
+use Rattle.roc_step.specs.Below.{mark_of, is_ended}
+use Rattle.roc_step.specs.State.{refused, ignored, answered, hearing, is_here, find_group, ServerState, ServerStep}
 use Rattle.roc_step.specs.Forgets.{forgetting}
 use Rattle.roc_step.specs.Start.{start_refusal, new_group, startok_of, start_taken, start_judged}
-use Rattle.roc_step.specs.Runs.{commitok_of, run_group, run_groups, buffered_here, take_all}
+use Rattle.roc_step.specs.Runs.{run_group, run_groups, buffered_here, take_all}
 use Rattle.roc_step.specs.Reads.{is_taken, read_refusal, read_judged}
 use Rattle.roc_step.specs.Carried.{carried, list_with, unknown_of}
-use Rattle.roc_step.specs.Asking.{known_to, knowns_for, fetch_from}
-use Rattle.roc_step.specs.Lists.{missing_after, lists_after, decides, taught, commit_refusal, after_commit}
+use Rattle.roc_step.specs.Asking.{known_to}
+use Rattle.roc_step.specs.Lists.{lists_after, decides, taught, commit_refusal, after_commit}
 use Rattle.roc_step.specs.Lists.{fetch_taken, settled_to, after_fetch, known_refusal, after_known, lists_settled, after_settled}
 use Rattle.roc_step.specs.Step.{Findings, after_message, tick_sends}
+use Rattle.roc_law_protocol.proofs.Marks.{ended_cases}
+use Rattle.roc_law_protocol.proofs.ServerSends.{AreSo, AreKindsSo, one_so, decided_so, taught_so, commit_so, tick_so}
 
 -- the message tells a watermark above t
 abbrev pub IsAbove : Msg → TxnId → Type 0
 IsAbove (Ended coord mark) t = (t.coord ≡ coord) × (t.seq < mark)
 IsAbove (Settled id mark) t = (t.coord ≡ id.coord) × (t.seq < mark)
 IsAbove msg t = ⊥
-
--- what is below a watermark that was heard was so before, or is below the new one
-ended_cases : (below : List ℕ) (coord mark : ℕ) (t : TxnId) → is_ended (raised below coord mark) t ≡ true → (is_ended below t ≡ true) ⊎ ((t.coord ≡ coord) × (t.seq < mark))
-ended_cases below coord mark t h = elim (set_cases below coord t.coord (max (mark_of below coord) mark)) [
-  | inl same ↦ inl (ap (nat_lt t.seq) (sym same) ∙ h)
-  | inr new ↦ go (is_ended below t) refl new.0 (ap (nat_lt t.seq) (sym new.1) ∙ h)
-]
-  where
-    go : (b : Bool) → is_ended below t ≡ b → t.coord ≡ coord → nat_lt t.seq (max (mark_of below coord) mark) ≡ true → (is_ended below t ≡ true) ⊎ ((t.coord ≡ coord) × (t.seq < mark))
-    go true e same k = inl e
-    go false e same k =
-        let above : nat_lt t.seq (mark_of below coord) ≡ false = ap (λ c. nat_lt t.seq (mark_of below c)) (sym same) ∙ e in
-        inr (same, grind (arith, nat_tests))
 
 -- groups that run leave the number and the watermarks alone
 groups_leave : (plan : Plan) (es : List StartedGroup) (s : ServerState) → ((run_groups plan s es).shard ≡ s.shard) × ((run_groups plan s es).below ≡ s.below)
@@ -74,32 +59,17 @@ pub record KeepsMarks (s : ServerState) (msg : Msg) (r : ServerStep) : Type 0 wh
   pub told : (out : Outgoing) → Has out r.sends → (t : TxnId) → IsAbove out.msg t → is_ended s.below t ≡ true
   pub ignored : is_taken r.answer ≡ false → r.state ≡ s
 
+-- it tells no watermark
+abbrev TellsNoMark : Msg → Type 0
+TellsNoMark msg = (t : TxnId) → ¬ IsAbove msg t
+
 module _ (plan : Plan) where
-  abbrev AreNone : List Outgoing → Type 0
-  AreNone outs = (out : Outgoing) → Has out outs → (t : TxnId) → ¬ IsAbove out.msg t
-
-  one_none : (x : Outgoing) → ((t : TxnId) → ¬ IsAbove x.msg t) → AreNone (x ∷ [])
-  one_none x none out h t k = none t (subst (λ (out : Outgoing). IsAbove out.msg t) (has_one out x h) k)
-
-  all_fetches : (shard : Shard) (asks : List OpenFetch) → AreNone (map (fetch_from shard) asks)
-  all_fetches shard asks out h t k = let q = from_has_map (fetch_from shard) out asks h in subst (λ (out : Outgoing). IsAbove out.msg t) q.2 k
-
-  decided_none : (s : ServerState) (lists : Lists) (components : List (List TxnId)) (told asks : List Outgoing) → AreNone told → AreNone asks
-      → AreNone (decides plan s lists components told asks).sends
-  decided_none s lists components told asks told_none asks_none out h t k =
-      let r = decides plan s lists components told asks in
-      let ts = flat_map (λ c. c) components in
-      elim (has_append out told (map (commitok_of plan r.state) (filter (λ t. is_here t s.started) ts) ++ asks) h) [
-        | inl j ↦ told_none out j t k
-        | inr j ↦ elim (has_append out (map (commitok_of plan r.state) (filter (λ t. is_here t s.started) ts)) asks j) [
-          | inl l ↦ (let q = from_has_map (commitok_of plan r.state) out (filter (λ t. is_here t s.started) ts) l in subst (λ (out : Outgoing). IsAbove out.msg t) q.2 k)
-          | inr l ↦ asks_none out l t k
-        ]
-      ]
+  none_told : AreKindsSo plan TellsNoMark
+  none_told = record { startok = λ shard e t k. k; commitok = λ s id t k. k; list = λ known asker t k. k; fetch = λ shard ask t k. k }
 
   module _ (s : ServerState) where
     -- a step that keeps the watermarks and tells none
-    quiet : (msg : Msg) (r : ServerStep) → r.state.shard ≡ s.shard → r.state.below ≡ s.below → AreNone r.sends → (is_taken r.answer ≡ false → r.state ≡ s) → KeepsMarks s msg r
+    quiet : (msg : Msg) (r : ServerStep) → r.state.shard ≡ s.shard → r.state.below ≡ s.below → AreSo TellsNoMark r.sends → (is_taken r.answer ≡ false → r.state ≡ s) → KeepsMarks s msg r
     quiet msg r shard below none same =
         record { shard = shard; ended = λ t h. inl (subst (λ l. is_ended l t ≡ true) below h); told = λ out h t k. absurd (none out h t k); ignored = same }
 
@@ -111,18 +81,10 @@ module _ (plan : Plan) where
     start_keeps f id c msg None = taken (find_group id c.group s.started)
       where
         taken : (x : Option StartedGroup) → KeepsMarks s msg (start_taken plan f.before f.reached s id c x)
-        taken (Some e) = quiet msg (start_taken plan f.before f.reached s id c (Some e)) refl refl (one_none (startok_of s.shard e) (λ t k. k)) (λ e. absurd (false≢true (sym e)))
+        taken (Some e) = quiet msg (start_taken plan f.before f.reached s id c (Some e)) refl refl (one_so TellsNoMark (startok_of s.shard e) (λ t k. k)) (λ e. absurd (false≢true (sym e)))
         taken None =
-            quiet msg (start_taken plan f.before f.reached s id c None) refl refl (one_none (startok_of s.shard (new_group plan f.before f.reached s id c)) (λ t k. k))
+            quiet msg (start_taken plan f.before f.reached s id c None) refl refl (one_so TellsNoMark (startok_of s.shard (new_group plan f.before f.reached s id c)) (λ t k. k))
             (λ e. absurd (false≢true (sym e)))
-
-    taught_none : (news : List KnownList) (components : List (List TxnId)) → AreNone (taught plan s news components).sends
-    taught_none news components =
-        decided_none s (lists_after s news components) components (flat_map (knowns_for s.lists.waiting.askers) news) (map (fetch_from s.shard) (missing_after s news))
-        (λ out h t k. let p = from_has_flat_map (knowns_for s.lists.waiting.askers) out news h in
-        let q = from_has_map (known_to p.0) out (askers_of p.0.of s.lists.waiting.askers) p.2 in
-        subst (λ (out : Outgoing). IsAbove out.msg t) q.2 k)
-        (all_fetches s.shard (missing_after s news))
 
     taught_here : (news : List KnownList) (components : List (List TxnId)) → ((taught plan s news components).state.shard ≡ s.shard) × ((taught plan s news components).state.below ≡ s.below)
     taught_here news components =
@@ -133,32 +95,23 @@ module _ (plan : Plan) where
     commit_keeps before components id edges facts msg (Some answer) = still msg answer
     commit_keeps before components id edges facts msg None =
         let news = unknown_of s.lists.known (carried id edges facts) in
-        let r = taught plan s news components in
         let here = taught_here news components in
         quiet msg (after_commit plan before components s id edges facts None) here.0 here.1
-        (λ out h. elim (has_append out r.sends (if is_listed is_txn before id then commitok_of plan r.state id ∷ [] else []) h) [
-          | inl k ↦ taught_none news components out k
-          | inr k ↦ again r.state (is_listed is_txn before id) out k
-        ])
-        (λ e. absurd (false≢true (sym e)))
-      where
-        again : (v : ServerState) (b : Bool) → AreNone (if b then commitok_of plan v id ∷ [] else [])
-        again v true = one_none (commitok_of plan v id) (λ t k. k)
-        again v false = λ out h. absurd h
+        (commit_so plan TellsNoMark none_told s before components id edges facts None) (λ e. absurd (false≢true (sym e)))
 
     known_keeps : (components : List (List TxnId)) (id : TxnId) (edges : List Dependency) (msg : Msg) → (x : Option Handled) → KeepsMarks s msg (after_known plan components s id edges x)
     known_keeps components id edges msg (Some answer) = still msg answer
     known_keeps components id edges msg None =
         let news = unknown_of s.lists.known (list_with id edges ∷ []) in
         let here = taught_here news components in
-        quiet msg (after_known plan components s id edges None) here.0 here.1 (taught_none news components) (λ e. absurd (false≢true (sym e)))
+        quiet msg (after_known plan components s id edges None) here.0 here.1 (taught_so plan TellsNoMark none_told s news components) (λ e. absurd (false≢true (sym e)))
 
     fetch_keeps : (id : TxnId) (asker : Shard) (msg : Msg) → KeepsMarks s msg (after_fetch s id asker)
     fetch_keeps id asker msg = ended (not (is_here id s.started) && is_ended s.below id)
       where
         taken : (x : Option (List Dependency)) → KeepsMarks s msg (fetch_taken s id asker x)
         taken (Some edges) =
-            quiet msg (fetch_taken s id asker (Some edges)) refl refl (one_none (known_to (list_with id edges) (record { id = id; shard = asker })) (λ t k. k)) (λ e. absurd (false≢true (sym e)))
+            quiet msg (fetch_taken s id asker (Some edges)) refl refl (one_so TellsNoMark (known_to (list_with id edges) (record { id = id; shard = asker })) (λ t k. k)) (λ e. absurd (false≢true (sym e)))
         taken None = quiet msg (fetch_taken s id asker None) refl refl (λ out h. absurd h) (λ e. absurd (false≢true (sym e)))
 
         here : (b : Bool) → KeepsMarks s msg (if b then fetch_taken s id asker (list_of id s.lists.known) else ignored s NotHere)
@@ -193,7 +146,7 @@ module _ (plan : Plan) where
             record {
               shard = k.0;
               ended = λ t h. ended_cases s.below id.coord mark t (subst (λ l. is_ended l t ≡ true) k.1 h);
-              told = λ out h t k. absurd (decided_none v (lists_settled s id mark components) components [] [] (λ out h. absurd h) (λ out h. absurd h) out h t k);
+              told = λ out h t k. absurd (decided_so plan TellsNoMark none_told v (lists_settled s id mark components) components [] [] (λ out h. absurd h) (λ out h. absurd h) out h t k);
               ignored = λ e. absurd (false≢true (sym e));
             }
         go false =
@@ -216,4 +169,4 @@ module _ (plan : Plan) where
     keeps_marks f msg = quiet msg (after_message plan s f msg) refl refl (λ out h. absurd h) (λ e. refl)
 
   pub tick_marks : (s : ServerState) (out : Outgoing) → Has out (tick_sends s) → (t : TxnId) → ¬ IsAbove out.msg t
-  tick_marks s out h t k = all_fetches s.shard (filter (λ (a : OpenFetch). not (is_known s.lists.known a.id)) s.lists.waiting.asked) out h t k
+  tick_marks s out h t k = tick_so plan TellsNoMark none_told s out h t k

@@ -1,6 +1,7 @@
 -- What comes of a message at a server, of transactions and of views
 use Rattle.std.proofs.Common.{◌≡◌, ◌∙◌, ℕ, suc, ◌-◌, Bool, true, false, not, [], ◌++◌, Option, Some, None, refl, sym, ap, subst, append-nil, arith}
 use Rattle.std.proofs.lemmas.Bool.{false≢true}
+use Rattle.std.proofs.lemmas.List.Elements.{filter-append}
 use Rattle.std.specs.Prelude.{if◌then◌else◌}
 use Rattle.std.specs.List.{filter}
 use Rattle.roc_sequence.proofs.Members.{from_has_map}
@@ -15,9 +16,11 @@ use Rattle.roc_step.specs.Reads.{is_taken, with_accesses, reads_with, is_free, i
 use Rattle.roc_step.specs.Runs.{accesses_of}
 use Rattle.roc_step.specs.Step as server
 use Rattle.roc_law_world.specs.Beside.{is_of_view, of_transactions}
-use Rattle.roc_law_world.proofs.Sent.{filter_append, filter_all, filter_none, envelopes, AreOfTransactions, AreOfViews}
+use Rattle.roc_law_world.proofs.Sent.{envelopes, AreOfTransactions, AreOfViews}
 use Rattle.roc_law_world.proofs.TickSends.{of_transaction}
 use Rattle.roc_law_world.proofs.Besides.{kept_envelopes}
+use Rattle.roc_law_protocol.proofs.Rounds.{filter_none}
+use Rattle.roc_law_protocol.proofs.Tells.{all_kept}
 
 pub one_less : (n : ℕ) → suc n - 1 ≡ n
 one_less n = omega arith
@@ -37,8 +40,8 @@ pub sent_for_transactions : (n : ℕ) (r : ServerStep) (q : ReadStep) → AreOfT
 sent_for_transactions n r q ours theirs =
     kept_envelopes (Server (record { 0 = n })) (r.sends ++ q.sends)
     ∙ ap (envelopes (Server (record { 0 = n })))
-    (filter_append of_transaction r.sends q.sends
-    ∙ (ap (λ l. l ++ filter of_transaction q.sends) (filter_all of_transaction r.sends (λ out h. ap not (ours out h)))
+    (filter-append of_transaction r.sends q.sends
+    ∙ (ap (λ l. l ++ filter of_transaction q.sends) (all_kept of_transaction r.sends (λ out h. ap not (ours out h)))
     ∙ (ap (λ l. r.sends ++ l) (filter_none of_transaction q.sends (λ out h. ap not (theirs out h))) ∙ append-nil r.sends)))
 
 -- of a message of views nothing comes but answers to reads

@@ -28,7 +28,7 @@ use Rattle.roc_law_world.specs.World.{World, mark_delivered, at_coord_tick}
 use Rattle.roc_law_world.specs.Happens.{Outcome, undecided, served, coordinated, IsServed, IsReceived, Happens}
 use Rattle.roc_law_world.specs.Run.{Transition}
 use Rattle.roc_law_world.specs.Beside.{is_of_view, is_of_transaction, of_transactions, number_among, TellsViews, IsBeside}
-use Rattle.roc_law_world.proofs.Sent.{filter_none, envelopes, all_kept, beside_delivered, beside_read, found_beside, AreOfTransactions}
+use Rattle.roc_law_world.proofs.Sent.{envelopes, all_kept, beside_delivered, beside_read, found_beside, AreOfTransactions}
 use Rattle.roc_law_world.proofs.TickSends.{of_transaction, kept_tick}
 use Rattle.roc_law_world.proofs.ServerSends as server_sends
 use Rattle.roc_law_protocol.proofs.Changed.{get-front}
@@ -43,6 +43,7 @@ use Rattle.roc_law_world.proofs.ServerSteps.{one_less, reads_of_views, sent_for_
 use Rattle.roc_law_world.proofs.AsideSteps.{view_message, submits}
 use Rattle.roc_law_world.proofs.StopSteps.{stops}
 use Rattle.roc_law_protocol.proofs.Stops.{set_there}
+use Rattle.roc_law_protocol.proofs.Rounds.{filter_none}
 
 module _ (plan : Plan) (is_view : TxnId → Bool) where
   -- ---- a delivery

@@ -17,7 +17,7 @@ use Rattle.roc_law_protocol.specs.Happens as theirs
 use Rattle.roc_law_world.specs.World.{World, mark_delivered, sends, at_server}
 use Rattle.roc_law_world.specs.Happens.{no_reads, StopsIn, at_rest, unrecorded, recorded, restarted}
 use Rattle.roc_law_world.specs.Beside.{is_of_view, is_of_transaction, number_among, IsBeside}
-use Rattle.roc_law_world.proofs.Sent.{filter_none, envelopes, all_kept, beside_delivered, beside_read, found_beside, AreOfTransactions, AreOfViews, beside_sends}
+use Rattle.roc_law_world.proofs.Sent.{envelopes, all_kept, beside_delivered, beside_read, found_beside, AreOfTransactions, AreOfViews, beside_sends}
 use Rattle.roc_law_world.proofs.TickSends.{of_transaction}
 use Rattle.roc_law_world.proofs.ServerSends as server_sends
 use Rattle.roc_law_protocol.proofs.Changed.{get-front}
@@ -31,6 +31,7 @@ use Rattle.roc_law_protocol.specs.Happens.{IsSentTo}
 use Rattle.roc_law_protocol.specs.Forgotten.{Brings, stops_at}
 use Rattle.roc_law_protocol.proofs.Stopping.{take_has, take_none}
 use Rattle.roc_law_protocol.proofs.Stops.{nothing_sent}
+use Rattle.roc_law_protocol.proofs.Rounds.{filter_none}
 use Rattle.roc_step.specs.Restarts.{cut_short, cut_reads}
 use Rattle.roc_law_world.proofs.ServerSteps.{one_less, reads_of_views, sent_for_transactions, IsIdle, idle}
 

@@ -1,6 +1,7 @@
 -- What a tick of a coordinator sends, of transactions alone
 use Rattle.std.proofs.Common.{◌≡◌, ◌∙◌, inl, inr, ℕ, Bool, true, false, not, cond, List, [], ◌∷◌, ◌++◌, Option, Some, None, map, refl, sym, ap, subst, append-nil}
 use Rattle.std.proofs.lemmas.Bool.{false≢true}
+use Rattle.std.proofs.lemmas.List.Elements.{filter-append}
 use Rattle.std.specs.List.{filter, flat_map, range_with_len}
 use Rattle.roc_sequence.specs.Lists.{Has}
 use Rattle.roc_sequence.specs.Places.{IsListed, NoneTwice}
@@ -21,8 +22,10 @@ use Rattle.roc_coord.specs.Starts.{group_numbers, start_for, all_started, commit
 use Rattle.roc_coord.specs.State.{find_transaction, find_view, has_commitok, CoordState}
 use Rattle.roc_coord.specs.Tick.{awaits_startok, starts_again, commits_again, sent_again, transaction_again, view_again, again_of, tick_sends}
 use Rattle.roc_law_protocol.specs.Aside.{transaction_tick_sends}
+use Rattle.roc_law_protocol.proofs.Rounds.{filter_none}
+use Rattle.roc_law_protocol.proofs.Tells.{all_kept}
 use Rattle.roc_law_world.specs.Beside.{is_of_view}
-use Rattle.roc_law_world.proofs.Sent.{filter_append, filter_all, filter_none, AreOfTransactions, AreOfViews}
+use Rattle.roc_law_world.proofs.Sent.{AreOfTransactions, AreOfViews}
 
 -- ---- what waits is found
 
@@ -76,11 +79,11 @@ module _ (plan : Plan) (is_view : TxnId → Bool) (s : CoordState) (sound : IsSo
 
   kept_own : (o : Option Transaction) → filter of_transaction (transaction_again plan o) ≡ transaction_again plan o
   kept_own None = refl
-  kept_own (Some x) = filter_all of_transaction (sent_again plan x) (λ out h. ap not (again_transactions plan x out h))
+  kept_own (Some x) = all_kept of_transaction (sent_again plan x) (λ out h. ap not (again_transactions plan x out h))
 
   kept_again : (t : TxnId) → filter of_transaction (again_of plan s t) ≡ own t
   kept_again t =
-      filter_append of_transaction (own t) (view_again plan (find_view t s.views))
+      filter-append of_transaction (own t) (view_again plan (find_view t s.views))
       ∙ (ap (λ l. l ++ filter of_transaction (view_again plan (find_view t s.views))) (kept_own (find_transaction t s.pending))
       ∙ (ap (λ l. own t ++ l) (filter_none of_transaction (view_again plan (find_view t s.views)) (λ out h. ap not (again_views plan (find_view t s.views) out h)))
       ∙ append-nil (own t)))
@@ -88,7 +91,7 @@ module _ (plan : Plan) (is_view : TxnId → Bool) (s : CoordState) (sound : IsSo
   kept_all_again : (ts : List TxnId) → filter of_transaction (flat_map (again_of plan s) ts) ≡ flat_map own ts
   kept_all_again [] = refl
   kept_all_again (t ∷ ts) =
-      filter_append of_transaction (again_of plan s t) (flat_map (again_of plan s) ts)
+      filter-append of_transaction (again_of plan s t) (flat_map (again_of plan s) ts)
       ∙ (ap (λ l. l ++ filter of_transaction (flat_map (again_of plan s) ts)) (kept_again t) ∙ ap (λ l. own t ++ l) (kept_all_again ts))
 
   -- nothing of a view is a transaction's
@@ -122,6 +125,6 @@ module _ (plan : Plan) (is_view : TxnId → Bool) (s : CoordState) (sound : IsSo
   -- of transactions a tick sends what it sends of them alone
   pub kept_tick : filter of_transaction (tick_sends plan s) ≡ transaction_tick_sends plan s
   kept_tick =
-      filter_append of_transaction (flat_map (again_of plan s) s.unanswered) (ended_sends plan s)
+      filter-append of_transaction (flat_map (again_of plan s) s.unanswered) (ended_sends plan s)
       ∙ (ap (λ l. l ++ filter of_transaction (ended_sends plan s)) (kept_all_again s.unanswered ∙ (without_own s.unanswered ∙ (ap (flat_map own) (sym sound.pending) ∙ all_own s.pending (λ x h. h))))
-      ∙ ap (λ l. flat_map (sent_again plan) s.pending ++ l) (filter_all of_transaction (ended_sends plan s) (λ out h. ap not (are_endeds plan s out h))))
+      ∙ ap (λ l. flat_map (sent_again plan) s.pending ++ l) (all_kept of_transaction (ended_sends plan s) (λ out h. ap not (are_endeds plan s out h))))

@@ -1,6 +1,7 @@
 -- In every world what is kept for views says of the log what it has to
 use Rattle.std.proofs.Common.{◌≡◌, ◌≢◌, ◌∙◌, inl, inr, ℕ, ℤ, ◌-◌, ◌<◌, ◌==◌, Bool, true, false, not, cond, List, [], ◌∷◌, ◌++◌, Option, Some, None, map, length, refl, sym, ap, subst, arith, append-nil, is_some}
 use Rattle.std.proofs.lemmas.Bool.{false≢true, eqb-true}
+use Rattle.std.proofs.lemmas.List.Elements.{filter-append}
 use Rattle.std.specs.Prelude.{slice_get, if◌then◌else◌, slice_set}
 use Rattle.roc_sequence.specs.Lists.{Has}
 use Rattle.roc_sequence.proofs.Members.{has_right, has_one, has_at, has_map, from_has_map, from_has_filter}
@@ -58,7 +59,7 @@ use Rattle.roc_readonly.specs.Round.{first_round}
 use Rattle.roc_law_world.specs.Happens.{Outcome, IsSubmissionOf, undecided, served, coordinated, IsServed, IsReceived, StopsIn, at_rest, unrecorded, recorded, IsStopped}
 use Rattle.roc_law_world.specs.Run.{Transition}
 use Rattle.roc_law_world.specs.Beside.{is_of_view, IsBeside}
-use Rattle.roc_law_world.proofs.Sent.{filter_append, AreOfTransactions}
+use Rattle.roc_law_world.proofs.Sent.{AreOfTransactions}
 use Rattle.roc_law_world.proofs.ServerSends as server_sends
 use Rattle.roc_law_world.proofs.IgnoredRuns.{ignored_runs}
 use Rattle.roc_law_world.proofs.Coordinators.{IsCoordSound}
@@ -124,7 +125,7 @@ module _ (plan : Plan) (calls : TxnId → whole.Call) (asked : TxnId → whole.C
 
     -- of the history beside an entry of a view is none
     dropped : (h told : List Entry) → without_views is_view told ≡ [] → without_views is_view (h ++ told) ≡ without_views is_view h
-    dropped h told none = filter_append (λ e. not (is_view (entry_id e))) h told ∙ (ap (λ l. without_views is_view h ++ l) none ∙ append-nil (without_views is_view h))
+    dropped h told none = filter-append (λ e. not (is_view (entry_id e))) h told ∙ (ap (λ l. without_views is_view h ++ l) none ∙ append-nil (without_views is_view h))
 
     -- the same world by the later log, where nothing ran
     mean_later : (k : ℕ) (t : transactions.World) → t.history ≡ without_views is_view w.history → t.order ≡ w.order → GoesOnBeside plan calls asked S start before t log later [] → Mean (mark_delivered w k) later

@@ -14,7 +14,7 @@ use Rattle.roc_sequence.proofs.Ranges.{range_more}
 use Rattle.roc_program.specs.Program.{Expression, Piece}
 use Rattle.roc_program.specs.LookUps.{no_piece}
 use Rattle.roc_program.specs.Names.{output, outputs}
-use Rattle.roc_program.specs.Values.{value, with_arguments}
+use Rattle.roc_program.specs.Values.{with_arguments}
 use Rattle.roc_program.proofs.Views.{view_there}
 use Rattle.roc_merge_groups.proofs.Elements.{range_above, has_range, from_has_range}
 use Rattle.roc_plan.specs.declared.group.Input.{Input}
@@ -23,10 +23,11 @@ use Rattle.roc_plan.specs.Accepted.{IsAccepted}
 use Rattle.roc_plan.specs.Turns.{AreInTurn}
 use Rattle.roc_plan.proofs.Ordered.{is_number, number_exact, number_own}
 use Rattle.roc_rows.specs.Store.{Store}
-use Rattle.roc_whole.specs.Run.{Progress, progress, after_piece, after_pieces, whole_run}
-use Rattle.roc_whole.proofs.Replied.{body_long}
+use Rattle.roc_whole.specs.Run.{Progress, progress, whole_run}
 use Rattle.roc_group.specs.GroupRun.{GroupCall, call, group_run, bound_by_run}
 use Rattle.roc_law_groups.specs.GroupsRun.{Given, TurnStage, taken, after_turn, after_turns, DoAs}
+use Rattle.roc_law_protocol.proofs.Grows.{flat_map_same}
+use Rattle.roc_law_plans.proofs.OfPlan.{whole_long}
 
 -- what the laws say of the parts of a view
 pub record ViewParts (plan : Plan) : Type 0 where
@@ -40,16 +41,6 @@ pub record ViewParts (plan : Plan) : Type 0 where
   pub inputs : IsAccepted plan → (proc : ℕ) → IsTrue (is_view_of plan proc) → (g : ℕ) → inputs_of plan proc g ≡ []
   -- views read alone
   pub store : (c : GroupCall) (s : Store) → IsAccepted plan → IsTrue (is_view_of plan c.proc) → (group_run plan c s).store ≡ s
-
--- ---- how much pieces say
-
-pub pieces_long : (p : Progress) (ps : List Piece) → length (after_pieces p ps).reply ≡ length p.reply + length (outputs ps)
-pieces_long p [] = omega arith
-pieces_long p (piece ∷ ps) =
-    let one = body_long (value piece.place p.environment) p piece.body in
-    let rest = pieces_long (after_piece p piece) ps in
-    let both = length-append (filter_map output piece.body) (outputs ps) in
-    omega (arith, one, rest, both)
 
 -- ---- numbers in a row
 
@@ -70,11 +61,6 @@ range_append : (a m b n k : ℕ) → a + m ≡ b → m + n ≡ k → range_with_
 range_append a zero b n k e f = let here : a ≡ b = omega (arith, e) in let long : k ≡ n = omega (arith, f) in λ i. range_with_len (here i) (long i)
 range_append a (suc m) b n zero e f = absurd (omega (arith, f))
 range_append a (suc m) b n (suc k) e f = ap (λ xs. a ∷ xs) (range_append (a + 1) m b n k (omega (arith, e)) (omega (arith, f)))
-
--- two that say the same of each say the same of all
-same_flat : {A B : Type 0} (f g : A → List B) (xs : List A) → ((x : A) → Has x xs → f x ≡ g x) → flat_map f xs ≡ flat_map g xs
-same_flat f g [] h = refl
-same_flat f g (x ∷ xs) h = let one = h x (inl refl) in let rest = same_flat f g xs (λ y k. h y (inr k)) in λ i. one i ++ rest i
 
 map_flat : {A B C : Type 0} (f : B → C) (g : A → List B) (xs : List A) → flat_map (λ x. map f (g x)) xs ≡ map f (flat_map g xs)
 map_flat f g [] = refl
@@ -178,14 +164,14 @@ module _ (plan : Plan) (accepted : IsAccepted plan) (laws : ViewParts plan) (pro
 
     long : before count ≡ length whole.reply
     long =
-        let said = pieces_long (progress store (with_arguments (procedure_of plan proc) args) []) ps in
+        let said = whole_long (progress store (with_arguments (procedure_of plan proc) args) []) ps in
         let all = ap (λ qs. length (outputs qs)) (take_all count ps (let c = laws.count accepted proc viewed in omega (arith, c))) in
         omega (arith, said, all)
 
     pub view_whole : (whole_run (procedure_of plan proc) args store).reply
         ≡ flat_map (λ g. (group_run plan (call proc g args []) store).reply) (range_with_len 0 (length (groups_of plan proc)))
     view_whole = sym (
-        same_flat own_reply (λ g. map (λ k. slice_index_or whole.reply k (pos 0)) (places_in (procedure_of plan proc) g)) (range_with_len 0 count) each
+        flat_map_same own_reply (λ g. map (λ k. slice_index_or whole.reply k (pos 0)) (places_in (procedure_of plan proc) g)) (range_with_len 0 count) each
         ∙ (map_flat (λ k. slice_index_or whole.reply k (pos 0)) (places_in (procedure_of plan proc)) (range_with_len 0 count)
         ∙ (ap (map (λ k. slice_index_or whole.reply k (pos 0))) (places count (omega (arith, laws.count accepted proc viewed)) ∙ ap (λ n. range_with_len 0 n) long)
         ∙ all_places whole.reply)))
