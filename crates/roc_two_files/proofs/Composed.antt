@@ -4,7 +4,6 @@ use Rattle.std.specs.List.{cons_option}
 use Rattle.roc_sequence.specs.Lists.{Has}
 use Rattle.roc_sequence.specs.Places.{IsListed, IsListedBefore}
 use Rattle.roc_sequence.proofs.Appended.{listed_front, listed_behind, listed_either, before_front, before_behind, before_new, NoneTwice-append}
-use Rattle.roc_sequence.proofs.Listed.{has_listed}
 use Rattle.roc_sequence.proofs.Members.{has_append, has_right}
 use Rattle.roc_base.specs.declared.id.TxnId.{TxnId}
 use Rattle.roc_base.specs.TxnId.{is_txn}
@@ -20,6 +19,7 @@ use Rattle.roc_audit.specs.History.{WasSubmitted, WasAnswered, IsAnsweredBefore}
 use Rattle.roc_audit.specs.Witness.{submitted_call, submitted_calls, reply_in, serial_reply_from, IsSerialWitnessFrom}
 use Rattle.roc_audit.proofs.Histories.{submitted_front, call_of-append, call_of-submitted, calls_of-append, calls_of-listed, before_cases, answered_by_before, submitted_by_before}
 use Rattle.roc_audit.proofs.Replies.{reply_in-front, reply_in-behind, reply_in-none}
+use Rattle.roc_depgraph.proofs.Listed.{has_listed}
 
 -- ---- calls in two histories, one behind the other
 
@@ -57,16 +57,13 @@ calls_behind h more (x ∷ xs) s =
 module _ (program : Workload) (s : Store) (h1 h2 : List Entry) (o1 o2 : List TxnId)
     (first : IsSerialWitnessFrom program s h1 o1) (second : IsSerialWitnessFrom program (serial_store program s (submitted_calls h1 o1)) h2 o2)
     (apart : (t : TxnId) → WasSubmitted h1 t → ¬ WasSubmitted h2 t) where
-  listed : (xs : List TxnId) (t : TxnId) → Has t xs → IsListed is_txn xs t
-  listed xs t h = has_listed is_txn is_txn-true is_txn-same xs t h
-
   abbrev left : Store
   left = serial_store program s (submitted_calls h1 o1)
 
   pub calls : submitted_calls (h1 ++ h2) (o1 ++ o2) ≡ submitted_calls h1 o1 ++ submitted_calls h2 o2
   calls =
-      let one = calls_front h1 h2 o1 (λ t i. first.submitted t (listed o1 t i)) in
-      let two = calls_behind h1 h2 o2 (λ t i h. apart t h (second.submitted t (listed o2 t i))) in
+      let one = calls_front h1 h2 o1 (λ t i. first.submitted t (has_listed o1 t i)) in
+      let two = calls_behind h1 h2 o2 (λ t i h. apart t h (second.submitted t (has_listed o2 t i))) in
       calls_of-append (h1 ++ h2) o1 o2 ∙ (λ i. one i ++ two i)
 
   answers : serial_answers program s (submitted_calls (h1 ++ h2) (o1 ++ o2)) ≡ serial_answers program s (submitted_calls h1 o1) ++ serial_answers program left (submitted_calls h2 o2)

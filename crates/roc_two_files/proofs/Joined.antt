@@ -2,6 +2,7 @@
 use Rattle.std.proofs.Common.{◌≡◌, ◌≢◌, ◌∙◌, ℕ, suc, ℤ, ◌+◌, ◌<◌, ◌≤◌, nat_lt, Bool, true, false, not, ◌&&◌, ◌||◌, cond, List, [], ◌∷◌, ◌++◌, length, map, refl, sym, ap, arith, inl, inr}
 use Rattle.std.proofs.Math.Bool.{or-false}
 use Rattle.std.proofs.lemmas.List.Folds.{list_any-append}
+use Rattle.std.proofs.lemmas.Bool.{lt-ltb, le-ltb}
 use Rattle.roc_sequence.specs.Lists.{Has}
 use Rattle.roc_sequence.proofs.Holds.{none_has}
 use Rattle.roc_sequence.proofs.Members.{from_has_map}
@@ -16,12 +17,6 @@ use Rattle.roc_law_world.specs.Witness.{was_answered, looks_again, last_looks, w
 use Rattle.roc_two_files.specs.Orders.{later_by}
 
 -- ---- weaving
-
-test_true : (a b : ℕ) → a < b → nat_lt a b ≡ true
-test_true a b l = grind arith
-
-test_false : (a b : ℕ) → b ≤ a → nat_lt a b ≡ false
-test_false a b l = grind arith
 
 -- a test of two numbers that are so many higher
 test_later : (n a b : ℕ) → nat_lt (n + a) (n + b) ≡ nat_lt a b
@@ -70,7 +65,7 @@ module _ (n : ℕ) (o2 : List TxnId) (l2 : List Look) where
       go [] ih = refl
       go (l ∷ m) ih =
           let early : taken < n + l.behind = omega arith in
-          ap (λ c. cond c (t ∷ woven (suc taken) (o1 ++ o2) (map (later_by n) (l ∷ m))) (l.id ∷ woven taken (t ∷ (o1 ++ o2)) (map (later_by n) m))) (test_true taken (n + l.behind) early)
+          ap (λ c. cond c (t ∷ woven (suc taken) (o1 ++ o2) (map (later_by n) (l ∷ m))) (l.id ∷ woven taken (t ∷ (o1 ++ o2)) (map (later_by n) m))) (lt-ltb taken (n + l.behind) early)
           ∙ ap (λ xs. t ∷ xs) ih
   both taken [] (l ∷ l1) e f = go o2 (both taken [] l1 e (λ k i. f k (inr i)))
     where
@@ -80,7 +75,7 @@ module _ (n : ℕ) (o2 : List TxnId) (l2 : List Look) where
       go : (xs : List TxnId) → woven taken xs (l1 ++ late) ≡ woven taken [] l1 ++ woven 0 o2 l2 → woven taken xs (l ∷ (l1 ++ late)) ≡ l.id ∷ (woven taken [] l1 ++ woven 0 o2 l2)
       go [] ih = ap (λ ys. l.id ∷ ys) ih
       go (x ∷ xs) ih =
-          ap (λ c. cond c (x ∷ woven (suc taken) xs (l ∷ (l1 ++ late))) (l.id ∷ woven taken (x ∷ xs) (l1 ++ late))) (test_false taken l.behind past)
+          ap (λ c. cond c (x ∷ woven (suc taken) xs (l ∷ (l1 ++ late))) (l.id ∷ woven taken (x ∷ xs) (l1 ++ late))) (le-ltb taken l.behind past)
           ∙ ap (λ ys. l.id ∷ ys) ih
   both taken (t ∷ o1) (l ∷ l1) e f = go (nat_lt taken l.behind) (both (suc taken) o1 (l ∷ l1) (omega arith) f) (both taken (t ∷ o1) l1 e (λ k i. f k (inr i)))
     where

@@ -2,6 +2,7 @@
 use Rattle.std.proofs.Common.{◌≡◌, ◌≢◌, ◌↔◌, ◌∙◌, ℕ, suc, ◌+◌, ◌==◌, Bool, true, false, not, cond, List, [], ◌∷◌, ◌++◌, Some, length, map, refl, sym, ap, subst, append-nil}
 use Rattle.std.proofs.lemmas.List.{length-map, map-append}
 use Rattle.std.proofs.lemmas.Option.{slice_get-map}
+use Rattle.std.proofs.lemmas.List.Elements.{filter-append}
 use Rattle.std.specs.Prelude.{slice_get, Option, None, option_map}
 use Rattle.std.specs.List.{filter, range_with_len}
 use Rattle.roc_sequence.specs.Lists.{Has}
@@ -10,15 +11,16 @@ use Rattle.roc_base.specs.declared.node.Node.{Node}
 use Rattle.roc_msg.specs.declared.msg.Envelope.{Envelope}
 use Rattle.roc_msg.specs.declared.outbox.Outgoing.{Outgoing}
 use Rattle.roc_law_protocol.specs.World.{sent_by}
+use Rattle.roc_law_protocol.proofs.Rounds.{filter_none}
+use Rattle.roc_law_protocol.proofs.Tells.{all_kept}
 use Rattle.roc_law_world.specs.World.{World, sends, mark_delivered}
 use Rattle.roc_law_world.proofs.Ranks.{rank_there, from_rank}
-use Rattle.roc_law_world.proofs.Sent.{filter_append, filter_all, filter_none}
+use Rattle.roc_law_world.proofs.RankedNumbers.{numbered_more, numbered_less, numbered_still}
 use Rattle.roc_epoch.specs.declared.file.File.{File}
 use Rattle.roc_epoch.specs.declared.file.File.TheVariants.{Neither}
 use Rattle.roc_epoch.specs.Files.{is_between, own_file, is_file}
 use Rattle.roc_epoch.proofs.Files.{same_file, other_file}
 use Rattle.roc_two_files.specs.Sealed.{Sealed, is_of, of_file, sealed_by, place_in_file, numbers_behind, IsNetworkOf}
-use Rattle.roc_two_files.proofs.Numbers.{numbered_more, numbered_less, numbered_still}
 
 -- ---- what a node sends
 
@@ -30,7 +32,7 @@ abbrev pub AreNoneBetween : List Outgoing → Type 0
 AreNoneBetween outs = (out : Outgoing) → Has out outs → is_between out.msg ≡ false
 
 pub of_append : (f : File) (xs ys : List Sealed) → of_file f (xs ++ ys) ≡ of_file f xs ++ of_file f ys
-of_append f xs ys = ap (map (λ (m : Sealed). m.message)) (filter_append (is_of f) xs ys) ∙ map-append (λ (m : Sealed). m.message) (filter (is_of f) xs) (filter (is_of f) ys)
+of_append f xs ys = ap (map (λ (m : Sealed). m.message)) (filter-append (is_of f) xs ys) ∙ map-append (λ (m : Sealed). m.message) (filter (is_of f) xs) (filter (is_of f) ys)
 
 module _ (switched : Bool) (from : Node) where
   abbrev sealed : List Outgoing → List Sealed
@@ -71,7 +73,7 @@ module _ (switched : Bool) (from : Node) where
       ∙ (append-nil (map (λ (m : Sealed). m.message) (sealed outs)) ∙ bare outs))
     where
       own : filter (is_of (own_file switched)) (sealed outs) ≡ sealed outs
-      own = filter_all (is_of (own_file switched)) (sealed outs) (own_passes outs none)
+      own = all_kept (is_of (own_file switched)) (sealed outs) (own_passes outs none)
 
       other : filter (is_of (own_file switched)) (sealed more) ≡ []
       other = filter_none (is_of (own_file switched)) (sealed more) (between_fails (own_file switched) some_file more all)
