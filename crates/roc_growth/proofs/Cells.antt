@@ -21,6 +21,7 @@ use Rattle.roc_audit.specs.Witness.{submitted_calls, IsSerialWitnessFrom}
 use Rattle.roc_audit.specs.Woven.{Look}
 use Rattle.roc_law_world.specs.World.{World, first_beginning}
 use Rattle.roc_law_world.specs.Witness as views
+use Rattle.roc_law_world.proofs.Outcomes.{there as stands_within}
 use Rattle.roc_epoch.specs.declared.next.Next.{Next}
 use Rattle.roc_epoch.specs.Files.{IsNextOf, last_plan}
 use Rattle.roc_two_files.specs.Left.{AreDrained, left_behind}
@@ -34,7 +35,7 @@ use Rattle.roc_growth.specs.World.{GrownWorld}
 use Rattle.roc_growth.specs.Run.{Stepped}
 use Rattle.roc_growth.specs.Epochs.{AreEpochs, second_begun}
 use Rattle.roc_growth.specs.Witness.{witness_of}
-use Rattle.roc_growth.proofs.Halves.{last_grows, all_drained, apart, stands_within}
+use Rattle.roc_growth.proofs.Halves.{last_grows, all_drained, apart}
 use Rattle.roc_growth.proofs.Plainly.{from_map}
 use Rattle.roc_growth.proofs.Headline.{first_history, first_witness, both_witness}
 

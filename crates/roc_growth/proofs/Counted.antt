@@ -1,23 +1,20 @@
 -- What was taken of the messages of a file counts in the world of that file
-use Rattle.std.proofs.Common.{◌≡◌, ◌≢◌, ◌∙◌, ◌⊎◌, inl, inr, ℕ, suc, ◌-◌, true, List, [], ◌∷◌, ◌++◌, Option, Some, None, map, refl, sym, ap, subst, arith, append_assoc}
+use Rattle.std.proofs.Common.{◌≡◌, ◌≢◌, ◌∙◌, ◌⊎◌, inl, inr, ℕ, suc, ◌-◌, true, List, [], ◌∷◌, ◌++◌, Option, Some, map, refl, sym, ap, subst, append_assoc}
 use Rattle.std.proofs.lemmas.List.{map-append}
 use Rattle.std.proofs.lemmas.Option.{slice_get-map}
 use Rattle.std.specs.Prelude.{slice_get, option_map}
 use Rattle.std.specs.List.{filter}
 use Rattle.roc_sequence.specs.Lists.{Has}
 use Rattle.roc_sequence.proofs.Members.{has_left, has_right, has_more, same_there}
-use Rattle.roc_base.specs.declared.node.Node.{Node}
-use Rattle.roc_base.specs.declared.node.Node.TheVariants.{Server}
-use Rattle.roc_base.specs.declared.node.Shard.{Shard}
 use Rattle.roc_epoch.specs.declared.file.File.{File}
 use Rattle.roc_msg.specs.declared.msg.Envelope.{Envelope}
 use Rattle.roc_law_protocol.specs.Quiet as theirs
 use Rattle.roc_law_protocol.specs.declared.event.Event.{Event}
-use Rattle.roc_law_protocol.specs.declared.event.Event.TheVariants.{Submit, Deliver, Tick, Stop}
-use Rattle.roc_law_protocol.specs.declared.event.Kept.{Kept}
+use Rattle.roc_law_protocol.specs.declared.event.Event.TheVariants.{Deliver}
 use Rattle.roc_law_protocol.proofs.FirstTaken.{at_end}
 use Rattle.roc_law_world.specs.Run as views
 use Rattle.roc_law_world.proofs.Ranks.{rank_there}
+use Rattle.roc_law_world.proofs.Runs.{less_of, stop_of}
 use Rattle.roc_two_files.specs.Sealed.{Sealed, is_of, of_file, place_in_file}
 use Rattle.roc_growth.specs.declared.event.Event.TheVariants as own
 use Rattle.roc_growth.specs.declared.event.Seen.TheVariants as seen
@@ -58,16 +55,6 @@ taken_step steps x sent k q = elim (at_end steps q.front q.behind x q.step q.at)
   )
 ]
 
-stop_of : (e : Option Event) (to : Node) → theirs.StopsReceiver e to → (shard : Shard) × (during : Option (ℕ × Kept)) × (e ≡ Some (Stop shard during)) × (to ≡ Server shard)
-stop_of (Some (Stop shard during)) to s = (shard, during, refl, s)
-stop_of (Some (Submit n proc args)) to s = absurd s
-stop_of (Some (Deliver k)) to s = absurd s
-stop_of (Some (Tick node)) to s = absurd s
-stop_of None to s = absurd s
-
-less_one : (k : ℕ) → suc k - 1 ≡ k
-less_one k = omega arith
-
 abbrev events_of : List views.Stepped → List (Option Event)
 events_of steps = map (λ (s : views.Stepped). s.event) steps
 
@@ -76,7 +63,7 @@ module _ (f : File) (sent : List Sealed) (k : ℕ) (m : Sealed) (at : slice_get 
   place = place_in_file f sent k
 
   the_message : (b : Envelope) → slice_get (of_file f sent) (suc place - 1) ≡ Some b → b ≡ m.message
-  the_message b there = same_there (of_file f sent) place b m.message (subst (λ i. slice_get (of_file f sent) i ≡ Some b) (less_one place) there) (file_there f sent k m at is)
+  the_message b there = same_there (of_file f sent) place b m.message (subst (λ i. slice_get (of_file f sent) i ≡ Some b) (less_of place) there) (file_there f sent k m at is)
 
   counts_more : (others : List views.Stepped) (x : Stepped) (y : views.Stepped) → IsAlong f sent x y → theirs.Counts (events_of others) (of_file f sent) (suc place)
       → ((m : Sealed) → slice_get sent (suc k - 1) ≡ Some m → ¬ StopsReceiver x.event m.message.to) → theirs.Counts (events_of others ++ y.event ∷ []) (of_file f sent) (suc place)
@@ -92,7 +79,7 @@ module _ (f : File) (sent : List Sealed) (k : ℕ) (m : Sealed) (at : slice_get 
               | inr last ↦
                   (let s = stop_of y.event b.to (subst (λ g. theirs.StopsReceiver g b.to) last stop) in
                   let here = along.stops s.0 s.1 s.2 in
-                  unstopped m (subst (λ k. slice_get sent k ≡ Some m) (sym (less_one k)) at)
+                  unstopped m (subst (λ k. slice_get sent k ≡ Some m) (sym (less_of k)) at)
                   (subst (λ e. StopsReceiver e m.message.to) (sym here.1) (ap (λ (b : Envelope). b.to) (sym same) ∙ s.3)))
             ]);
       }

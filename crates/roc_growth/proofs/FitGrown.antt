@@ -17,11 +17,11 @@ use Rattle.roc_plan.specs.Groups.{Plan, procedure_of, is_view_of}
 use Rattle.roc_readonly.specs.Round.{first_round}
 use Rattle.roc_step.specs.Step.{tick_sends}
 use Rattle.roc_coord.specs.Submit.{Submission, next_id, new_transaction, accepted, accepted_view, after_submit}
+use Rattle.roc_coord.proofs.Keeping.{all_filter}
 use Rattle.roc_audit.specs.declared.entry.Entry.{Entry}
 use Rattle.roc_audit.specs.declared.entry.Entry.TheVariants.{Submitted}
 use Rattle.roc_law_protocol.specs.declared.event.Kept.{Kept}
 use Rattle.roc_law_protocol.proofs.Changed.{get-set_cases, get-set_here}
-use Rattle.roc_law_protocol.proofs.Named.{all_filter}
 use Rattle.roc_law_protocol.proofs.ServersHere as cores
 use Rattle.roc_law_protocol.proofs.Stopping.{all_take}
 use Rattle.roc_law_protocol.proofs.SubmissionEnds.{IsAnySubmission, any_submission_is, unknown, miscounted, spent, busy, taken}

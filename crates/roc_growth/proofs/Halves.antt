@@ -1,7 +1,7 @@
 -- Which of the two worlds of a world of two files an id is of
-use Rattle.std.proofs.Common.{◌≡◌, ◌∙◌, ◌⊎◌, inl, inr, ℕ, ℤ, ◌<◌, ◌≤◌, Bool, true, false, ◌&&◌, List, [], Option, Some, None, length, refl, sym, ap, subst, arith, append-nil}
-use Rattle.std.proofs.lemmas.Bool.{false≢true}
-use Rattle.std.proofs.lemmas.Option.{slice_get_cases, slice_get_within}
+use Rattle.std.proofs.Common.{◌≡◌, ◌∙◌, ◌⊎◌, inl, inr, ℕ, ℤ, ◌<◌, Bool, true, false, ◌&&◌, List, [], Option, Some, None, length, refl, sym, ap, subst, arith, append-nil}
+use Rattle.std.proofs.lemmas.Bool.{false≢true, le-leb, lt-leb}
+use Rattle.std.proofs.lemmas.Option.{slice_get_within}
 use Rattle.std.specs.Prelude.{slice_get, nat_le}
 use Rattle.roc_sequence.specs.Lists.{Has}
 use Rattle.roc_sequence.proofs.Members.{has_append, same_there}
@@ -15,6 +15,7 @@ use Rattle.roc_law_protocol.specs.Beginnings.{next_in}
 use Rattle.roc_law_world.specs.World.{Beginning, first_beginning}
 use Rattle.roc_law_world.proofs.Numbered.{numbered}
 use Rattle.roc_law_world.proofs.SameNodes.{run_count}
+use Rattle.roc_law_world.proofs.Outcomes.{there as stands_within}
 use Rattle.roc_epoch.specs.Grown.{IsGrownFrom}
 use Rattle.roc_epoch.specs.declared.next.Next.{Next}
 use Rattle.roc_epoch.specs.Files.{last_plan, own_plan, IsNextOf}
@@ -43,19 +44,6 @@ own_first plan (Some next) = refl
 pub own_second : (plan : Plan) (next : Option Next) → own_plan plan next true ≡ last_plan plan next
 own_second plan None = refl
 own_second plan (Some next) = refl
-
-pub test_true : (n k : ℕ) → n ≤ k → nat_le n k ≡ true
-test_true n k l = grind arith
-
-pub test_false : (n k : ℕ) → k < n → nat_le n k ≡ false
-test_false n k l = grind arith
-
--- what stands within a list
-pub stands_within : {A : Type 0} (xs : List A) (n : ℕ) → n < length xs → (x : A) × (slice_get xs n ≡ Some x)
-stands_within xs n l = elim (slice_get_cases xs n).1 [
-  | inl q ↦ (q.0, q.2)
-  | inr q ↦ absurd (let past = q.0 in omega arith)
-]
 
 module _ (plan : Plan) (next : Option Next) (coords : ℕ) (steps : List Stepped) (g : GrownWorld) (e : AreEpochs plan next coords steps g) where
   abbrev pub last : Plan
@@ -117,7 +105,7 @@ module _ (plan : Plan) (next : Option Next) (coords : ℕ) (steps : List Stepped
   second_true t s =
       let c = second_switched t s in
       second_is t c.0 c.1 c.2
-      ∙ test_true (left.of_transactions.nexts t.coord) t.seq (ids_behind plan last (first_beginning plan) coords e.first_steps e.second_steps e.w e.v e.first e.second t s)
+      ∙ le-leb (left.of_transactions.nexts t.coord) t.seq (ids_behind plan last (first_beginning plan) coords e.first_steps e.second_steps e.w e.v e.first e.second t s)
 
   pub first_false : (t : TxnId) → WasSubmitted e.w.history t → is_second g t ≡ false
   first_false t s = go (slice_get g.coords t.coord) refl
@@ -125,7 +113,7 @@ module _ (plan : Plan) (next : Option Next) (coords : ℕ) (steps : List Stepped
       by_switched : (c : GrownCoordState) → slice_get g.coords t.coord ≡ Some c → (b : Bool) → c.switched ≡ b → is_second g t ≡ false
       by_switched c at true is =
           second_is t c at is
-          ∙ test_false (left.of_transactions.nexts t.coord) t.seq (ids_before plan last (first_beginning plan) coords e.first_steps e.second_steps e.w e.v e.first e.second t s)
+          ∙ lt-leb (left.of_transactions.nexts t.coord) t.seq (ids_before plan last (first_beginning plan) coords e.first_steps e.second_steps e.w e.v e.first e.second t s)
       by_switched c at false is = ap (λ o. is_from_switched o t) at ∙ ap (λ b. b && is_from c.upto t.seq) is
 
       go : (o : Option GrownCoordState) → slice_get g.coords t.coord ≡ o → is_second g t ≡ false

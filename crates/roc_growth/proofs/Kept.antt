@@ -17,6 +17,7 @@ use Rattle.roc_law_world.specs.World.{first_beginning}
 use Rattle.roc_law_world.proofs.Answering.{AreTold, answered_submitted}
 use Rattle.roc_law_world.proofs.AnsweringRuns.{told_in_runs}
 use Rattle.roc_law_world.proofs.WovenOrder.{is_view, tells_them}
+use Rattle.roc_law_world.proofs.Outcomes.{there as stands_within}
 use Rattle.roc_epoch.specs.declared.next.Next.{Next}
 use Rattle.roc_epoch.specs.Files.{last_plan}
 use Rattle.roc_two_files.specs.Left.{AreDrained}
@@ -24,7 +25,7 @@ use Rattle.roc_grown.specs.Coord.{GrownCoordState}
 use Rattle.roc_growth.specs.World.{GrownWorld}
 use Rattle.roc_growth.specs.Run.{Stepped}
 use Rattle.roc_growth.specs.Epochs.{AreEpochs}
-use Rattle.roc_growth.proofs.Halves.{all_drained, apart, left, next_left, of_either, second_switched, stands_within}
+use Rattle.roc_growth.proofs.Halves.{all_drained, apart, left, next_left, of_either, second_switched}
 
 -- ---- two histories
 

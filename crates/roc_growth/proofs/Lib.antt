@@ -9,7 +9,7 @@ mod Placed
 mod OwnServers
 mod OwnCoords
 mod OwnDeliveries
-mod Phases
+pub mod Phases
 mod GlueServers
 mod GlueCoords
 mod GoesOver
@@ -32,5 +32,5 @@ mod Taken
 mod Passed
 mod QuietFiles
 mod Answering
-mod Submitting
+pub mod Submitting
 mod Refusing

@@ -31,7 +31,7 @@ use Rattle.roc_law_protocol.proofs.Changed.{get-set_here}
 use Rattle.roc_law_protocol.proofs.Submissions.{keeps_number}
 use Rattle.roc_law_protocol.proofs.SubmissionEnds.{IsAnySubmission, any_submission_is, unknown, miscounted, spent, busy, taken}
 use Rattle.roc_law_world.specs.World as views
-use Rattle.roc_law_world.specs.World.{World, reads_for, first_look, looks_in}
+use Rattle.roc_law_world.specs.World.{World, reads_for, first_look}
 use Rattle.roc_law_world.specs.Happens as happen
 use Rattle.roc_law_world.specs.Run.{Transition}
 use Rattle.roc_epoch.specs.declared.file.File.{File}

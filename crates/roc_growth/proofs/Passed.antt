@@ -24,6 +24,8 @@ use Rattle.roc_law_protocol.specs.declared.event.Seen.TheVariants as their_seen
 use Rattle.roc_law_protocol.proofs.Changed.{get-front}
 use Rattle.roc_law_world.specs.World as views
 use Rattle.roc_law_world.specs.Happens as theirs
+use Rattle.roc_law_world.proofs.Outcomes.{there as stands_within}
+use Rattle.roc_law_world.proofs.Runs.{less_of}
 use Rattle.roc_epoch.specs.declared.file.File.{File}
 use Rattle.roc_epoch.specs.declared.file.File.TheVariants.{First, Second}
 use Rattle.roc_epoch.specs.declared.next.Next.{Next}
@@ -44,7 +46,7 @@ use Rattle.roc_growth.specs.Receivers.{StandsAs}
 use Rattle.roc_growth.specs.Quiet.{IsPassed}
 use Rattle.roc_growth.proofs.Counted.{file_there}
 use Rattle.roc_growth.proofs.Cuts.{IsLater, cut, placed_step}
-use Rattle.roc_growth.proofs.Halves.{all_drained, second_switched, stands_within}
+use Rattle.roc_growth.proofs.Halves.{all_drained, second_switched}
 use Rattle.roc_growth.proofs.Skips.{skips, receiver}
 use Rattle.roc_growth.proofs.Taken.{file_is, core_ignores}
 
@@ -92,9 +94,6 @@ not_one c d same is not = false≢true (sym not ∙ (ap (λ (c : GrownCoordState
 pub nothing_there : {A : Type 0} (k : ℕ) (a : A) → slice_get [] k ≡ Some a → ⊥
 nothing_there k a e = cc
 
-less_one : (k : ℕ) → suc k - 1 ≡ k
-less_one k = omega arith
-
 -- a step that skipped a message: the world that it met, and where the receiver stood
 record IsSkip (plan : Plan) (next : Option Next) (coords : ℕ) (k : ℕ) (m : Sealed) (w : GrownWorld) : Type 0 where
   front : List Stepped
@@ -112,7 +111,7 @@ skip_of plan next coords told steps w run k m at q =
     let place = placed_step steps q.step q.has in
     let c = cut plan next coords told steps w run place.0 q.step place.1 place.2 in
     let moves = subst (λ e. Transition plan next c.before e q.step.outcome) q.delivers c.moves in
-    let came = subst (λ i. slice_get c.before.sent i ≡ Some moves.0) (less_one k) moves.2 in
+    let came = subst (λ i. slice_get c.before.sent i ≡ Some moves.0) (less_of k) moves.2 in
     let same = same_there w.sent k moves.0 m (subst (λ l. slice_get l k ≡ Some moves.0) (sym c.later.sent) (get-front c.before.sent c.later.more k moves.0 came)) at in
     let there = subst (λ m. slice_get c.before.sent k ≡ Some m) same came in
     let received = subst (λ (a : Sealed). IsReceived plan next (mark_delivered c.before (suc k)) a.file a.message.msg a.message.to q.step.outcome) same moves.3 in
@@ -125,7 +124,7 @@ skip_of plan next coords told steps w run k m at q =
       there = there;
       switched = stands.0;
       stands = stands.1;
-      none = (skips plan next c.before (suc k) m stands.0 q.step.outcome (subst (λ i. slice_get c.before.sent i ≡ Some m) (sym (less_one k)) there) stands.1 moves).0 q.skipped;
+      none = (skips plan next c.before (suc k) m stands.0 q.step.outcome (subst (λ i. slice_get c.before.sent i ≡ Some m) (sym (less_of k)) there) stands.1 moves).0 q.skipped;
     }
 
 module _ (plan : Plan) (next : Option Next) (coords : ℕ) (both : (steps : List Stepped) (w : GrownWorld) → IsGrownRun plan next coords steps w → AreBoth plan next coords steps w) where

@@ -24,6 +24,7 @@ use Rattle.roc_law_world.specs.World.{World}
 use Rattle.roc_law_world.specs.Run as views
 use Rattle.roc_law_world.specs.Quiet as theirs
 use Rattle.roc_law_world.proofs.Ranks.{from_rank}
+use Rattle.roc_law_world.proofs.Outcomes.{there as stands_within}
 use Rattle.roc_epoch.specs.declared.file.File.{File}
 use Rattle.roc_epoch.specs.declared.file.File.TheVariants.{First, Second}
 use Rattle.roc_epoch.specs.declared.next.Next.{Next}
@@ -37,7 +38,7 @@ use Rattle.roc_growth.specs.Epochs.{AreAlong, AreEpochs}
 use Rattle.roc_growth.specs.Told.{HasSwitched}
 use Rattle.roc_growth.specs.Quiet.{Counts, IsPassed, was_taken, was_passed, messages_of, plan_of, WritesFor, PrecedesIn, is_told, writes_for, AreDelivered, IsQuiet, IsInLastRound}
 use Rattle.roc_growth.proofs.Counted.{counted}
-use Rattle.roc_growth.proofs.Halves.{first_false, own_first, own_second, second_true, stands_within}
+use Rattle.roc_growth.proofs.Halves.{first_false, own_first, own_second, second_true}
 
 -- ---- the messages of a file
 

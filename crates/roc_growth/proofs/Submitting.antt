@@ -1,5 +1,6 @@
 -- Which step submitted an id, and of which file its coordinator was then
 use Rattle.std.proofs.Common.{◌≡◌, ◌∙◌, ◌⊎◌, inl, inr, ℕ, ℤ, ◌+◌, ◌<◌, ◌≤◌, Bool, true, false, cond, ◌&&◌, List, [], ◌∷◌, ◌++◌, Option, Some, None, refl, sym, ap, subst, arith, append-nil, append_assoc}
+use Rattle.std.proofs.lemmas.Bool.{le-leb, lt-leb}
 use Rattle.std.specs.Prelude.{slice_get, slice_set, Result, Ok, Err}
 use Rattle.roc_sequence.specs.Lists.{Has}
 use Rattle.roc_sequence.proofs.Appended.{empty_more, same_more}
@@ -40,7 +41,7 @@ use Rattle.roc_growth.specs.Epochs.{AreEpochs}
 use Rattle.roc_growth.specs.Witness.{IsSubmissionAt}
 use Rattle.roc_growth.proofs.Cuts.{IsCut, cut}
 use Rattle.roc_growth.proofs.Going.{GoesOn}
-use Rattle.roc_growth.proofs.Halves.{next_left, test_true, test_false}
+use Rattle.roc_growth.proofs.Halves.{next_left}
 use Rattle.roc_law_protocol.proofs.Changed.{get-set_here}
 
 -- ---- what is accepted
@@ -59,7 +60,7 @@ core_accepted plan s proc args t = go (refusal_of plan s proc args)
     go (Some why) e = absurd (cc)
     go None e = kinds (is_view_of plan proc) e
 
-answered_ok : (r : Result TxnId SubmitFault) (t : TxnId) → coord.answered_so r ≡ Ok t → r ≡ Ok t
+pub answered_ok : (r : Result TxnId SubmitFault) (t : TxnId) → coord.answered_so r ≡ Ok t → r ≡ Ok t
 answered_ok (Ok id) t e = ap (λ id. Ok id) (cc)
 answered_ok (Err why) t e = absurd (cc)
 
@@ -197,14 +198,14 @@ module _ (plan : Plan) (next : Option Next) (coords : ℕ) (epochs : (steps : Li
           let over = now.2.over (took.2 ∙ is) n in
           let grown = took.1 in
           let l : t.seq < over.0.seq = (let reach = over.2 in omega (arith, seq, grown, reach)) in
-          told true n (Some over.0) over.1 ∙ test_false over.0.seq t.seq l
+          told true n (Some over.0) over.1 ∙ lt-leb over.0.seq t.seq l
 
       go : (b : Bool) → c.switched ≡ b → is_second w t ≡ c.switched
       go true is =
           let u = told_less x.front x.before x.run t.coord c x.there is in
           let on = now.2.still (took.2 ∙ is) in
           let l : u.0.seq ≤ t.seq = (let few = u.2 in omega (arith, seq)) in
-          told true on.0 (Some u.0) (on.1 ∙ (took.3 ∙ u.1)) ∙ (test_true u.0.seq t.seq l ∙ sym is)
+          told true on.0 (Some u.0) (on.1 ∙ (took.3 ∙ u.1)) ∙ (le-leb u.0.seq t.seq l ∙ sym is)
       go false is = since is now.0.switched refl ∙ sym is
 
   -- ---- which step it was

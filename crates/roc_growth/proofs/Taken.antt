@@ -31,6 +31,7 @@ use Rattle.roc_law_protocol.specs.declared.event.Seen.TheVariants as their_seen
 use Rattle.roc_law_protocol.specs.Happens as their_seeing
 use Rattle.roc_law_world.specs.World as views
 use Rattle.roc_law_world.specs.Happens as theirs
+use Rattle.roc_law_world.proofs.Runs.{less_of}
 use Rattle.roc_epoch.specs.declared.file.File.{File}
 use Rattle.roc_epoch.specs.declared.file.File.TheVariants.{First, Second, Neither}
 use Rattle.roc_epoch.specs.declared.next.Next.{Next}
@@ -105,9 +106,6 @@ served_so core_server_answer.Gone h = inr (inl refl)
 served_so (core_server_answer.Ignored why) (inl e) = absurd (cc)
 served_so (core_server_answer.Ignored why) (inr e) = absurd (cc)
 
-less_one : (k : ℕ) → suc k - 1 ≡ k
-less_one k = omega arith
-
 positive : (n : ℕ) → 0 < suc n
 positive n = omega arith
 
@@ -118,7 +116,7 @@ module _ (plan : Plan) (w : views.World) (f : File) (sent : List Sealed) (messag
   number = suc (place_in_file f sent k)
 
   came : slice_get w.sent (number - 1) ≡ Some m.message
-  came = subst (λ i. slice_get w.sent i ≡ Some m.message) (sym (less_one (place_in_file f sent k)))
+  came = subst (λ i. slice_get w.sent i ≡ Some m.message) (sym (less_of (place_in_file f sent k)))
       (subst (λ l. slice_get l (place_in_file f sent k) ≡ Some m.message) (sym messages) (file_there f sent k m at of))
 
   -- what its server takes, or finds too late
@@ -259,7 +257,7 @@ module _ (plan : Plan) (next : Option Next) (coords : ℕ) (steps : List Stepped
       (subst (λ (a : Sealed). IsReceived plan next (mark_delivered g (suc k)) a.file a.message.msg a.message.to o) same h))
     where
       here : slice_get g.sent k ≡ Some m
-      here = subst (λ k. slice_get g.sent k ≡ Some m) (less_one k) at
+      here = subst (λ k. slice_get g.sent k ≡ Some m) (less_of k) at
 
       has : Has m g.sent
       has = has_at g.sent k m here
@@ -287,7 +285,7 @@ module _ (plan : Plan) (next : Option Next) (coords : ℕ) (steps : List Stepped
   coordinators_ignore take_first take_second first second (suc k) o why (m, p, there, h) ignored = by_node m.message.to refl h
     where
       here : slice_get g.sent k ≡ Some m
-      here = subst (λ k. slice_get g.sent k ≡ Some m) (less_one k) there
+      here = subst (λ k. slice_get g.sent k ≡ Some m) (less_of k) there
 
       has : Has m g.sent
       has = has_at g.sent k m here
