@@ -22,7 +22,7 @@ use Rattle.roc_growth.specs.Fits.{FitsGrown}
 use Rattle.roc_world.specs.Inner.Parts.{Leads}
 
 -- an event adds no coordinator
-same_count : (plan : Plan) (next : Option Next) (w : GrownWorld) (e : Event) (o : Outcome) → Happens plan next w e o → length o.world.coords ≡ length w.coords
+pub same_count : (plan : Plan) (next : Option Next) (w : GrownWorld) (e : Event) (o : Outcome) → Happens plan next w e o → length o.world.coords ≡ length w.coords
 same_count plan next w (Submit n proc args) o (call, s, there, h) = go (after_grown_submit plan next s proc args).state (after_grown_submit plan next s proc args).sends (after_grown_submit plan next s proc args).answer h
   where
     go : (state : GrownCoordState) (outs : List Outgoing) (answer : Result TxnId GrownFault) → Submits w n proc args state outs answer o → length o.world.coords ≡ length w.coords
