@@ -19,7 +19,7 @@ use Rattle.roc_replay.specs.declared.asked.BoundLine.{BoundLine}
 use Rattle.roc_replay.specs.declared.ended.Ended.{Ended}
 use Rattle.roc_replay.specs.declared.ended.Ended.TheVariants.{Done, Text, SinkFault, NoMemory}
 use Rattle.roc_replay.specs.BoundLine.{coordinators, last_program, IsScheduleOf, event_in}
-use Rattle.roc_replay.specs.Inner.Closed.{ClosesInPiece}
+use Rattle.roc_replay.specs.Inner.Closed.{ClosesReportInPiece}
 use Rattle.roc_replay.specs.Pieces.{step_texts, ArePiecesOf, is_broken_off, GoesOutInPieces, whole, some_played, cut_line, cut_end}
 use Rattle.roc_replay.specs.Played.{IsPlayed, begun, goes_on, IsPlayedLine}
 use Rattle.roc_replay.specs.Report.{step_lines}
@@ -80,7 +80,7 @@ module _ (plan : Plan) (next : Option Next) (schedule : List ℕ) (lines : List 
       (pieces_of (take i lines) (line ∷ drop (suc i) lines) w old now (parts_at lines i line within is) so) played (cut_behind old now then _ text so.taken cut)
 
   -- the closing lines
-  pub closed_in_piece : (w : GrownWorld) (old now then : Option (List (List ℕ))) → ArePiecesSoFar plan next lines w old now → (e : Ended) → ClosesInPiece (last_program plan next) w e now then
+  pub closed_in_piece : (w : GrownWorld) (old now then : Option (List (List ℕ))) → ArePiecesSoFar plan next lines w old now → (e : Ended) → ClosesReportInPiece (last_program plan next) w e now then
       → GoesOutInPieces plan next schedule old then e
   closed_in_piece w old now then so (Done summary) adds = whole summary lines w _ (pieces_of lines [] w old now (append-nil lines) so) (Adds-trans old now then _ _ so.taken adds)
   closed_in_piece w old now then so SinkFault cut = cut_end lines w _ (pieces_of lines [] w old now (append-nil lines) so) (cut_behind old now then _ _ so.taken cut)

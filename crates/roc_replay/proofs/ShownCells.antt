@@ -31,6 +31,7 @@ use Rattle.roc_report.specs.Line.{Row, Pending}
 use Rattle.roc_replay.specs.Cells.{put, by_cell}
 use Rattle.roc_replay.specs.Report.{first_lines, send_lines, answer_lines, step_lines, steps_lines, end_line, closing_lines, report}
 use Rattle.roc_replay.specs.Readback.{pending_of, pending_in, cell_of, cells_in}
+use Rattle.roc_law_protocol.proofs.Undelivered.{number_of}
 
 -- ---- members
 
@@ -163,16 +164,10 @@ module _ (plan : Plan) (w : GrownWorld)
     (apart : (shard : Shard) (s : GrownServerState) → slice_get w.servers shard.0 ≡ Some s → (x : Cell) → shard_of plan x.place ≢ shard.0 → read s.core.store x ≡ pos 0)
     (exact : (s : Store) (x : Cell) (v : ℤ) → Contains (entries s) (x, v) ↔ ((v ≢ pos 0) × (read s x ≡ v)))
     (all : Store) (serial : (x : Cell) (s : GrownServerState) → slice_get w.servers (shard_of plan x.place) ≡ Some s → read s.core.store x ≡ read all x) where
-  -- a place in a list
-  place_in : {A : Type 0} (xs : List A) (a : A) → Has a xs → (n : ℕ) × (slice_get xs n ≡ Some a)
-  place_in [] a h = absurd h
-  place_in (x ∷ xs) a (inl e) = (0, ap (λ a. Some a) (sym e))
-  place_in (x ∷ xs) a (inr h) = let q = place_in xs a h in (suc q.0, q.1)
-
   from_cells : (x : Cell) (v : ℤ) → Has (x, v) (cells_of w) → (v ≢ pos 0) × (read all x ≡ v)
   from_cells x v h =
       let a = from_has_flat_map (λ (s : GrownServerState). entries s.core.store) (x, v) w.servers h in
-      let at = place_in w.servers a.0 a.1 in
+      let at = number_of w.servers a.0 a.1 in
       let e = (exact a.0.core.store x v).0 (has_contains (entries a.0.core.store) (x, v) a.2) in
       elim (cases_eq (shard_of plan x.place) at.0) [
         | inl same ↦ (e.0, sym (serial x a.0 (subst (λ n. slice_get w.servers n ≡ Some a.0) (sym same) at.1)) ∙ e.1)

@@ -10,7 +10,7 @@ ghost use Rattle.roc_growth.specs.World.{first_grown_world};
 ghost use Rattle.roc_growth.specs.Run.{AreCoordsOf, IsEventOf};
 ghost use Rattle.roc_growth.specs.Quiet.{messages_of};
 ghost use Rattle.roc_replay.specs.BoundLine.{IsScheduleOf, WantedFits, coordinators, chosen, event_in};
-ghost use Rattle.roc_replay.specs.Inner.Closed.{IsClosed, ClosesInPiece, is_sent_to, asks_unsent, wants_unsent};
+ghost use Rattle.roc_replay.specs.Inner.Closed.{IsClosed, ClosesReportInPiece, is_sent_to, asks_unsent, wants_unsent};
 ghost use Rattle.roc_replay.specs.Ended.{is_sink_fault};
 ghost use Rattle.roc_replay.specs.Inner.Ends.{IsEnd};
 ghost use Rattle.roc_replay.specs.Pieces.{GoesOutInPieces};
@@ -123,7 +123,7 @@ fn close<S: Sink>(
     sink: &mut S,
 ) -> Ended
     ensures closed { IsClosed workload.now world.now busy result (S.taken sink.old) (S.taken sink.new) }
-    ensures pieces { ClosesInPiece workload.now world.now result (S.pieces sink.old) (S.pieces sink.new) }
+    ensures pieces { ClosesReportInPiece workload.now world.now result (S.pieces sink.old) (S.pieces sink.new) }
     ensures sink { HasCause (is_sink_fault result) (S.faults sink.old) (S.faults sink.new) }
 {
     let Ok(closing) = last_lines(alloc, workload, world, busy) else {

@@ -29,11 +29,11 @@ IsClosed program w busy NoMemory old new = new ≡ old
 IsClosed program w busy (Text line what) old new = ⊥
 
 -- in one write, of which it took a front where it failed
-abbrev pub ClosesInPiece : Workload → GrownWorld → Ended → (old new : Option (List (List ℕ))) → Type 0
-ClosesInPiece program w (Done summary) old new = Adds old new (lines_text program (closing_lines w) ∷ [])
-ClosesInPiece program w SinkFault old new = AddsCut old new [] (lines_text program (closing_lines w))
-ClosesInPiece program w NoMemory old new = new ≡ old
-ClosesInPiece program w (Text line what) old new = ⊥
+abbrev pub ClosesReportInPiece : Workload → GrownWorld → Ended → (old new : Option (List (List ℕ))) → Type 0
+ClosesReportInPiece program w (Done summary) old new = Adds old new (lines_text program (closing_lines w) ∷ [])
+ClosesReportInPiece program w SinkFault old new = AddsCut old new [] (lines_text program (closing_lines w))
+ClosesReportInPiece program w NoMemory old new = new ≡ old
+ClosesReportInPiece program w (Text line what) old new = ⊥
 
 -- a message, if any, goes to the server of a shard
 abbrev pub goes_to : Shard → Option Envelope → Bool

@@ -1,21 +1,16 @@
-use Rattle.std.proofs.Common.{ℕ, ℤ, pos, negsuc, ◌-◌, ◌%◌, ◌<◌, Option, Some, None, arith, mod-lt}
+use Rattle.std.proofs.Common.{ℕ, ℤ, pos, negsuc, ◌-◌, ◌%◌, ◌<◌, arith, mod-lt}
 use Rattle.roc_plan.specs.Accepted.{IsAccepted}
 use Rattle.roc_plan.specs.Groups.{Plan, shard_of}
-use Rattle.roc_epoch.specs.declared.next.Next.{Next}
-use Rattle.roc_epoch.specs.Files.{last_plan, IsNextOf}
+use Rattle.roc_epoch.specs.Files.{last_plan}
 use Rattle.roc_whole.specs.Serial.{serial_store, start_store}
 use Rattle.roc_audit.specs.Witness.{submitted_calls}
 use Rattle.roc_growth.specs.Witness.{witness_of}
+use Rattle.roc_growth.proofs.Phases.{last_accepted}
 use Rattle.roc_replay.specs.BoundLine.{last_program}
 use Rattle.roc_replay.proofs.ShownCells.{shown_cells, all_answered}
 use Rattle.roc_replay.proofs.Shows.{explained, quiet_answered}
 use Rattle.roc_replay.proofs.IgnoredLines.{report_stale}
 use Rattle.roc_replay.proofs.laws.report_explains_itself.Goals as goal
-
--- the last plan is accepted
-last_accepted : (plan : Plan) (next : Option Next) → IsAccepted plan → IsNextOf plan next → IsAccepted (last_plan plan next)
-last_accepted plan None accepted of = accepted
-last_accepted plan (Some next) accepted of = of.0
 
 -- each place is some shard's
 placed : (plan : Plan) → IsAccepted plan → (place : ℤ) → shard_of plan place < plan.program.shards

@@ -6,7 +6,7 @@ use Rattle.roc_program.specs.Program.{Workload}
 use Rattle.roc_plan.specs.Groups.{Plan}
 use Rattle.roc_growth.specs.Quiet.{messages_of}
 use Rattle.roc_replay.specs.declared.asked.BoundLine.{BoundLine}
-use Rattle.roc_replay.specs.Inner.Closed.{IsClosed, ClosesInPiece, wants_unsent}
+use Rattle.roc_replay.specs.Inner.Closed.{IsClosed, ClosesReportInPiece, wants_unsent}
 use Rattle.roc_replay.proofs.Exits.{unsent_end, stopped_end, failed_end, closed_end}
 use Rattle.roc_replay.proofs.PiecesSoFar.{ArePiecesSoFar, no_piece_so_far, one_piece_more, broken_off, cut_at_line, closed_in_piece}
 use Rattle.roc_replay.proofs.SoFar.{IsSoFar, nothing_so_far, one_more}
@@ -85,7 +85,7 @@ pub returns-clause-pieces : goal.returns-clause-pieces
 returns-clause-pieces g c schedule of =
     let plan = c.args.plan.now in
     let next = option_copied c.args.next in
-    let closes : Workload → Type 0 = λ program. ClosesInPiece program c.loop-line.world c.close.result (g.S.Sink.pieces c.loop-line.sink) (g.S.Sink.pieces c.close.new.sink) in
+    let closes : Workload → Type 0 = λ program. ClosesReportInPiece program c.loop-line.world c.close.result (g.S.Sink.pieces c.loop-line.sink) (g.S.Sink.pieces c.close.new.sink) in
     closed_in_piece plan next schedule c.args.lines.now of c.loop-line.world _ _ _
     (subst (λ (lines : List BoundLine). ArePiecesSoFar plan next lines c.loop-line.world (g.S.Sink.pieces c.args.sink.now) (g.S.Sink.pieces c.loop-line.sink))
     (front_whole c.args.lines.now c.loop-line.line-index c.loop-line-test.false) c.loop-line.invariant.2)
