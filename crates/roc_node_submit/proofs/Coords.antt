@@ -177,7 +177,7 @@ took_node S logs requests event old new output messages traffic lines logged h =
     ∙ ap (λ p. made new.coord (drop new.next requests) (messages ++ r.sends) (asked ++ map sending p) (lines ++ reply_lines r.answer) all (answered_then old.answered r.answer)) (sym h.gives)
     ∙ ap (made new.coord (drop new.next requests) (messages ++ r.sends) (asked ++ map sending output.sends.items) (lines ++ reply_lines r.answer) all) (sym h.answered)
 
-lines_behind : (program : Workload) (some more : List Line) → report_text program some ++ report_text program more ≡ report_text program (some ++ more)
+pub lines_behind : (program : Workload) (some more : List Line) → report_text program some ++ report_text program more ≡ report_text program (some ++ more)
 lines_behind program some more = sym (flat_map-append (line_text program) some more)
 
 pub logged_behind : (program : Workload) (some more : List LogLine) → lines_text program some ++ lines_text program more ≡ lines_text program (some ++ more)

@@ -42,6 +42,19 @@ given_one_more number next id = ap (λ d. one_if (number == id.coord && d)) belo
     go true false true e = refl
     go true false false e = refl
 
+-- none below 0 was
+pub none_below : (number : ℕ) (id : TxnId) → 0 ≡ times_given number 0 id
+none_below number id = go (number == id.coord) (nat_lt id.seq 0) none
+  where
+    none : nat_lt id.seq 0 ≡ false
+    none = grind (arith, nat_tests)
+
+    go : (a b : Bool) → b ≡ false → 0 ≡ one_if (a && b)
+    go true true e = absurd (false≢true (sym e))
+    go false true e = refl
+    go true false e = refl
+    go false false e = refl
+
 pub record Kept (program : Workload) (number : ℕ) (taken : List Request) (state : CoordState) (lines : List Line) (answered : ℕ) : Type 0 where
   pub numbered : state.number ≡ number
   pub next : state.next ≡ length taken

@@ -1,11 +1,12 @@
-mod Closing
+pub mod Closing
 mod Booked
 mod Logged
-mod Coords
-mod Counts
-mod Keeping
-mod Runs
-mod CoordNodes
+pub mod Coords
+pub mod Counts
+pub mod Keeping
+pub mod KeptSteps
+pub mod Runs
+pub mod CoordNodes
 mod Submitted
 mod Told
 mod Writing

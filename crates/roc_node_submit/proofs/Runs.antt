@@ -1,36 +1,22 @@
 -- A run keeps each id that it gives until the id is answered, and at its end each was
 use Rattle.std.proofs.Common.{◌≡◌, ℕ, ◌<◌, ℤ, Bool, true, false, not, ◌&&◌, ◌==◌, nat_lt, nat_le, List, [], ◌∷◌, ◌++◌, length, Option, Some, None, refl, sym, ◌∙◌, ap, subst, append-nil, append_assoc, arith}
 use Rattle.std.proofs.lemmas.Bool.{false≢true, leb-false, lt-ltb, eq-eqb, eqb-true, and_parts}
-use Rattle.std.proofs.lemmas.Bool.Decides.{nat_tests}
 use Rattle.std.proofs.lemmas.List.{map-append}
 use Rattle.std.specs.Prelude.{filter, if◌then◌else◌}
 use Rattle.std.specs.Result.{is_ok}
-use Rattle.roc_sequence.proofs.Found.{found_has}
-use Rattle.roc_sequence.proofs.Members.{has_map}
 use Rattle.roc_base.specs.declared.id.TxnId.{TxnId}
-use Rattle.roc_base.specs.TxnId.{is_txn}
-use Rattle.roc_base.specs.declared.node.Shard.{Shard}
 use Rattle.roc_program.specs.LookUps.{procedure_named}
 use Rattle.roc_plan.specs.Groups.{Plan, procedure_of, is_view_of}
 use Rattle.roc_report.specs.Line.{Line, Submit}
 use Rattle.roc_sched.specs.declared.line.Request.{Request}
-use Rattle.roc_msg.specs.declared.msg.Msg.{Msg}
-use Rattle.roc_msg.specs.declared.msg.Msg.TheVariants.{StartOk, CommitOk, ReadOk}
-use Rattle.roc_msg.specs.declared.reason.Reason.{Reason}
 use Rattle.roc_coord.specs.declared.transaction.Transaction.{Transaction}
-use Rattle.roc_readonly.specs.declared.view.Round.{Round}
-use Rattle.roc_readonly.specs.declared.view.Round.TheVariants.{Waits, Ends, GoesOn}
-use Rattle.roc_readonly.specs.declared.view.TakenRead.{TakenRead}
 use Rattle.roc_readonly.specs.declared.view.View.{View}
-use Rattle.roc_readonly.specs.Round.{first_round, with_readok, readok_refusal, round_of, next_round}
-use Rattle.roc_coord.specs.declared.transaction.TakenStart.{TakenStart}
-use Rattle.roc_coord.specs.declared.transaction.TakenCommit.{TakenCommit}
+use Rattle.roc_readonly.specs.Round.{first_round}
 use Rattle.roc_coord.specs.declared.handled.SubmitFault.{SubmitFault}
 use Rattle.roc_coord.specs.declared.handled.SubmitFault.TheVariants.{NoProc, Args, Spent, Busy}
 use Rattle.roc_coord.specs.Ids.{ids_of, view_ids}
 use Rattle.roc_coord.specs.Starts.{with_starts}
-use Rattle.roc_coord.specs.State.{CoordState, CoordStep, find_transaction, with_transaction, find_view, with_view}
-use Rattle.roc_coord.specs.Step.{after_message, after_startok, after_commitok, unless_refused, startok_taken, startok_refusal, with_startok, with_commits, commitok_taken, commitok_refusal, with_commitok, reply_now, after_readok, readok_taken}
+use Rattle.roc_coord.specs.State.{CoordState}
 use Rattle.roc_coord.specs.Submit.{accepted, accepted_view, new_transaction, next_id, most_transactions, most_pending, refusal_of, refused_or_accepted}
 use Rattle.roc_node.specs.Judgement.{judged}
 use Rattle.roc_node.specs.declared.judging.Judged.{Judged}
@@ -38,11 +24,12 @@ use Rattle.roc_node.specs.declared.judging.Judged.TheVariants.{Delivery, Skipped
 use Rattle.roc_node.specs.NodeEvent.{NodeEvent, took, silent, NodeSetting}
 use Rattle.roc_node_submit.specs.CoordRun.{CoordNodeState, Submissions, accepts, accepts_call, with_submission, submitted, submitted_call, submitted_all, submissions_of, none_submitted, coord_submitted, step_of_judged, reply_lines, answered_then, coord_turn, IsCoordRun, begun, goes_on, is_answered}
 use Rattle.roc_node_submit.specs.EachAnswered.{is_submission, is_answer_to, AreGivenIds, AreEachAnswered, none_given}
-use Rattle.roc_node_submit.proofs.Counts.{one_if, waiting, waits, ids_with, AreShared, shared_more, shared_swap}
-use Rattle.roc_node_submit.proofs.Keeping.{Kept, kept_same, kept_given, kept_replied, kept_read, times_given}
+use Rattle.roc_node_submit.proofs.Counts.{one_if, waiting, AreShared, shared_more, shared_swap}
+use Rattle.roc_node_submit.proofs.Keeping.{Kept, kept_given, none_below}
+use Rattle.roc_node_submit.proofs.KeptSteps.{nothing_new, kept_message}
 
 -- a submission that is not refused has a sequence number left
-unspent : (plan : Plan) (s : CoordState) (proc : ℕ) (args : List ℤ) → refusal_of plan s proc args ≡ None → s.next < most_transactions
+pub unspent : (plan : Plan) (s : CoordState) (proc : ℕ) (args : List ℤ) → refusal_of plan s proc args ≡ None → s.next < most_transactions
 unspent plan s proc args e = leb-false most_transactions s.next
     (go (not (nat_lt proc (length plan.program.procedures))) (not (length args == (procedure_of plan proc).arguments))
     (nat_le most_transactions s.next) (nat_le most_pending (length s.unanswered)) e)
@@ -129,65 +116,10 @@ module _ (S : NodeSetting) (number : ℕ) (before : List Line) (answered : ℕ) 
 
 -- ---- events
 
-module _ (plan : Plan) (number : ℕ) (taken : List Request) (state : CoordState) (lines : List Line) (answered : ℕ) (k : Kept plan.program number taken state lines answered) where
-  abbrev KeptStep : CoordStep → Type 0
-  KeptStep r = Kept plan.program number taken r.state (lines ++ reply_lines r.answer) (answered_then answered r.answer)
-
-  nothing_new : Kept plan.program number taken state (lines ++ []) answered
-  nothing_new = kept_same plan.program number taken state state.pending state.views lines answered refl refl k
-
-  changed : (x : Transaction) → Kept plan.program number taken (with_transaction state x) (lines ++ []) answered
-  changed x = kept_same plan.program number taken state (with_transaction state x).pending state.views lines answered (ids_with (λ (y : Transaction). y.id) x state.pending) refl k
-
-  read : (v : View) → Kept plan.program number taken (with_view state v) (lines ++ []) answered
-  read v = kept_same plan.program number taken state state.pending (with_view state v).views lines answered refl (ids_with (λ (w : View). w.id) v state.views) k
-
-  kept_startok : (id : TxnId) (found : Option Transaction) (ok : TakenStart) (shard : Shard) → KeptStep (after_startok plan state id found ok shard)
-  kept_startok id None ok shard = nothing_new
-  kept_startok id (Some x) ok shard = go (startok_refusal plan x ok shard)
-    where
-      go : (why : Option Reason) → KeptStep (unless_refused state why (startok_taken plan state (with_startok x ok)))
-      go (Some reason) = nothing_new
-      go None = changed (with_commits plan (with_starts plan (with_startok x ok)))
-
-  kept_commitok : (id : TxnId) (found : Option Transaction) (ok : TakenCommit) → find_transaction id state.pending ≡ found → KeptStep (after_commitok plan state id found ok)
-  kept_commitok id None ok e = nothing_new
-  kept_commitok id (Some x) ok e = go (commitok_refusal plan x ok)
-    where
-      replied : (reply : Option (List ℤ)) → KeptStep (commitok_taken plan state (with_commitok x ok) reply)
-      replied None = changed (with_commitok x ok)
-      replied (Some reply) =
-          let has = found_has (λ (y : Transaction). is_txn y.id id) state.pending x e in
-          kept_replied plan.program number taken state lines answered x.id reply k (waits x.id (ids_of state.pending) (has_map (λ (y : Transaction). y.id) x state.pending has.0))
-
-      go : (why : Option Reason) → KeptStep (unless_refused state why (commitok_taken plan state (with_commitok x ok) (reply_now plan (with_commitok x ok))))
-      go (Some reason) = nothing_new
-      go None = replied (reply_now plan (with_commitok x ok))
-
-  kept_readok : (id : TxnId) (found : Option View) (round : ℕ) (ok : TakenRead) (shard : Shard) → find_view id state.views ≡ found → KeptStep (after_readok plan state id found round ok shard)
-  kept_readok id None round ok shard e = nothing_new
-  kept_readok id (Some v) round ok shard e = go (readok_refusal plan v round ok shard)
-    where
-      came_to : (r : Round) → KeptStep (readok_taken plan state (with_readok v ok) r)
-      came_to Waits = read (with_readok v ok)
-      came_to (Ends reply) =
-          let has = found_has (λ (w : View). is_txn w.id id) state.views v e in
-          kept_read plan.program number taken state lines answered v.id reply k (waits v.id (view_ids state.views) (has_map (λ (w : View). w.id) v state.views has.0))
-      came_to GoesOn = read (next_round (with_readok v ok))
-
-      go : (why : Option Reason) → KeptStep (unless_refused state why (readok_taken plan state (with_readok v ok) (round_of plan (with_readok v ok))))
-      go (Some reason) = nothing_new
-      go None = came_to (round_of plan (with_readok v ok))
-
-  kept_message : (msg : Msg) → KeptStep (after_message plan state msg)
-  kept_message (StartOk id group shard bound outs edges facts) = kept_startok id (find_transaction id state.pending) _ shard
-  kept_message (CommitOk id shard outs) = kept_commitok id (find_transaction id state.pending) _ refl
-  kept_message (ReadOk id round group shard versions outs) = kept_readok id (find_view id state.views) round _ shard refl
-  kept_message msg = nothing_new
-
-  kept_judged : (j : Judged) → KeptStep (step_of_judged plan state j)
-  kept_judged (Delivery header msg) = kept_message msg
-  kept_judged (Skipped skip) = nothing_new
+kept_judged : (plan : Plan) (number : ℕ) (taken : List Request) (state : CoordState) (lines : List Line) (answered : ℕ) → Kept plan.program number taken state lines answered → (j : Judged)
+    → Kept plan.program number taken (step_of_judged plan state j).state (lines ++ reply_lines (step_of_judged plan state j).answer) (answered_then answered (step_of_judged plan state j).answer)
+kept_judged plan number taken state lines answered k (Delivery header msg) = kept_message plan plan.program number taken state lines answered k msg
+kept_judged plan number taken state lines answered k (Skipped skip) = nothing_new plan plan.program number taken state lines answered k
 
 -- ---- runs
 
@@ -196,18 +128,6 @@ module _ (S : NodeSetting) (number : ℕ) where
     pub taken : List Request
     pub parts : requests ≡ taken ++ node.left
     pub kept : Kept S.plan.program number taken node.state node.lines node.answered
-
-  none_below : (id : TxnId) → 0 ≡ times_given number 0 id
-  none_below id = go (number == id.coord) (nat_lt id.seq 0) none
-    where
-      none : nat_lt id.seq 0 ≡ false
-      none = grind (arith, nat_tests)
-
-      go : (a b : Bool) → b ≡ false → 0 ≡ one_if (a && b)
-      go true true e = absurd (false≢true (sym e))
-      go false true e = refl
-      go true false e = refl
-      go false false e = refl
 
   turned : (requests : List Request) (node : CoordNodeState) (event : NodeEvent) → KeptRun requests node → KeptRun requests (coord_turn S node event)
   turned requests node event r =
@@ -222,13 +142,13 @@ module _ (S : NodeSetting) (number : ℕ) where
       took_event : (event : NodeEvent) (more : List Request) → Kept S.plan.program number (r.taken ++ more) (coord_submitted S node).state (coord_submitted S node).lines node.answered
           → Kept S.plan.program number (r.taken ++ more) (coord_turn S node event).state (coord_turn S node event).lines (coord_turn S node event).answered
       took_event (took packet) more k = kept_judged S.plan number (r.taken ++ more) (coord_submitted S node).state (coord_submitted S node).lines node.answered k (judged S.header.tag packet.bytes)
-      took_event silent more k = nothing_new S.plan number (r.taken ++ more) (coord_submitted S node).state (coord_submitted S node).lines node.answered k
+      took_event silent more k = nothing_new S.plan S.plan.program number (r.taken ++ more) (coord_submitted S node).state (coord_submitted S node).lines node.answered k
 
   kept_run : {requests : List Request} {events : List NodeEvent} {node : CoordNodeState} → IsCoordRun S number requests events node → KeptRun requests node
   kept_run begun = record {
     taken = [];
     parts = refl;
-    kept = record { numbered = refl; next = refl; bounded = omega arith; given = none_given; each = none_below; all = refl; shared = λ id. refl; counted = refl };
+    kept = record { numbered = refl; next = refl; bounded = omega arith; given = none_given; each = none_below number; all = refl; shared = λ id. refl; counted = refl };
   }
   kept_run {requests} (goes_on {node = node} event run going) = turned requests node event (kept_run run)
 

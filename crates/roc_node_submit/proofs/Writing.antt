@@ -13,7 +13,7 @@ use Rattle.roc_node_submit.specs.declared.ends.SubmitEnd.{SubmitEnd}
 use Rattle.roc_node_submit.specs.declared.ends.SubmitEnd.TheVariants as end
 use Rattle.roc_node_submit.specs.CoordRun.{CoordNodeState, first_coord_node_state, is_answered, step_of_event, reply_lines}
 use Rattle.roc_node_submit.specs.Pieces.{none_written, half_pieces, ends_in_turns, WritesTurnsInPieces, broken_off, cut_submissions, cut_reply, cut_end, over}
-use Rattle.roc_node_submit.specs.Inner.CoordTurn.{coord_node_state_of, Seen, HalfSubmits, HalfTakes, CoordRanSo, ClosesInPiece, Begins}
+use Rattle.roc_node_submit.specs.Inner.CoordTurn.{coord_node_state_of, Seen, HalfSubmits, HalfTakes, CoordRanSo, ClosesSubmitInPiece, Begins}
 use Rattle.roc_node_submit.proofs.Coords.{Halved, halved}
 
 -- ---- the ends
@@ -59,7 +59,7 @@ module _ (S : NodeSetting) (logs : Bool) (number : ℕ) (requests : List Request
 
   -- all are answered, or all turns were taken
   pub over_pieces : (e : SubmitEnd) (count : ℕ) (coord_node : CoordNode) (b : Seen) (out : Option (List (List ℕ))) → CoordRanSo S logs number requests count coord_node a b
-      → ClosesInPiece e (coord_node_state_of coord_node requests [] [] [] []) b.pieces out → WritesTurnsInPieces S number requests a.pieces out e
+      → ClosesSubmitInPiece e (coord_node_state_of coord_node requests [] [] [] []) b.pieces out → WritesTurnsInPieces S number requests a.pieces out e
   over_pieces end.Done count coord_node b out r last = over end.Done r.events _ r.pieces refl r.written (let does = r.does in Adds-trans a.pieces b.pieces out r.pieces _ does.in_pieces last)
   over_pieces end.Unanswered count coord_node b out r last =
       over end.Unanswered r.events _ r.pieces refl r.written (let does = r.does in Adds-trans a.pieces b.pieces out r.pieces _ does.in_pieces last)

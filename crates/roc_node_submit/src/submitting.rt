@@ -8,7 +8,7 @@ ghost use Rattle.roc_node.specs.NodeEvent.{node_setting};
 ghost use Rattle.roc_node.specs.NodeLine.{node_line_text, node_lines_text};
 ghost use Rattle.roc_node_submit.specs.CoordRun.{is_answered};
 ghost use Rattle.roc_log.specs.LogLine.{node_line_text as log_first_line};
-ghost use Rattle.roc_node_submit.specs.Inner.CoordTurn.{coord_node_state_of, Begins, ClosesInPiece, ClosesSubmit, half_book_failed, half_link_failed, half_sink_failed};
+ghost use Rattle.roc_node_submit.specs.Inner.CoordTurn.{coord_node_state_of, Begins, ClosesSubmitInPiece, ClosesSubmit, half_book_failed, half_link_failed, half_sink_failed};
 ghost use Rattle.roc_node_submit.specs.Pieces.{WritesTurnsInPieces};
 ghost use Rattle.roc_node_submit.specs.SubmitEnd.{closing_text, Submits, BindsAndSubmits, BeginsLog, first_logged, submit_link_failed, submit_sink_failed, submit_book_failed};
 ghost use Rattle.roc_book.specs.Call.{BookView, book_call, book_view};
@@ -173,7 +173,7 @@ fn close<S: Sink>(
     ensures link { submit_link_failed result ≡ false }
     ensures book { submit_book_failed result ≡ false }
     ensures closes { ClosesSubmit result (coord_node_state_of coord_node.now requests.now [] [] [] []) (S.taken out.old) (S.taken out.new) }
-    ensures pieces { ClosesInPiece result (coord_node_state_of coord_node.now requests.now [] [] [] []) (S.pieces out.old) (S.pieces out.new) }
+    ensures pieces { ClosesSubmitInPiece result (coord_node_state_of coord_node.now requests.now [] [] [] []) (S.pieces out.old) (S.pieces out.new) }
 {
     let mut text = Vec::new(alloc);
     if push_closing(alloc, &mut text, coord_node, requests).is_err() {

@@ -259,13 +259,13 @@ ClosesSubmit LinkFault node old new = ⊥
 ClosesSubmit BookFault node old new = ⊥
 
 -- in one write, or a front of them, or none
-abbrev pub ClosesInPiece : SubmitEnd → CoordNodeState → Option (List (List ℕ)) → Option (List (List ℕ)) → Type 0
-ClosesInPiece Done node old new = Adds old new (closing_text node ∷ [])
-ClosesInPiece Unanswered node old new = Adds old new (closing_text node ∷ [])
-ClosesInPiece SinkFault node old new = AddsCut old new [] (closing_text node)
-ClosesInPiece NoMemory node old new = new ≡ old
-ClosesInPiece LinkFault node old new = ⊥
-ClosesInPiece BookFault node old new = ⊥
+abbrev pub ClosesSubmitInPiece : SubmitEnd → CoordNodeState → Option (List (List ℕ)) → Option (List (List ℕ)) → Type 0
+ClosesSubmitInPiece Done node old new = Adds old new (closing_text node ∷ [])
+ClosesSubmitInPiece Unanswered node old new = Adds old new (closing_text node ∷ [])
+ClosesSubmitInPiece SinkFault node old new = AddsCut old new [] (closing_text node)
+ClosesSubmitInPiece NoMemory node old new = new ≡ old
+ClosesSubmitInPiece LinkFault node old new = ⊥
+ClosesSubmitInPiece BookFault node old new = ⊥
 
 -- a log was begun, if one is kept; or why not, and what the book took until then
 abbrev pub Begins : Result (Unit {0}) SubmitEnd → (log : Option (List ℕ)) → (first : List ℕ) → (old new : BookView) → Type 0
