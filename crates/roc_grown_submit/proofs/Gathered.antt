@@ -1,8 +1,7 @@
 -- A drain and submissions, one behind the other
-use Rattle.std.proofs.Common.{◌≡◌, ℕ, ◌+◌, ◌-◌, ◌<◌, ◌≤◌, ℤ, Bool, true, false, ◌&&◌, ◌==◌, List, [], ◌∷◌, ◌++◌, length, length-drop, get_or, take, drop, refl, sym, ◌∙◌, ap, subst, append-nil}
+use Rattle.std.proofs.Common.{◌≡◌, ℕ, ◌+◌, ◌-◌, ◌<◌, ◌≤◌, ℤ, Bool, true, false, ◌&&◌, ◌==◌, List, [], ◌∷◌, ◌++◌, length, get_or, drop, refl, sym, ◌∙◌, ap, subst, append-nil}
 use Rattle.std.proofs.Common.{append_assoc, arith, Option, Some, None, Result, Ok, Err, cond, if◌then◌else◌}
 use Rattle.std.proofs.lemmas.Bool.{eqb-true}
-use Rattle.std.proofs.lemmas.Grind.{flat_map-append}
 use Rattle.std.proofs.lemmas.List.{drop-drop}
 use Rattle.std.specs.Prelude.{IfOk, OnOk}
 use Rattle.std.specs.Result.{is_ok}
@@ -32,7 +31,8 @@ use Rattle.roc_readonly.specs.Round.{first_round}
 use Rattle.roc_report.specs.Line.{Line, Submit}
 use Rattle.roc_report.specs.Text.{line_text, lines_text}
 use Rattle.roc_sched.specs.declared.line.Request.{Request}
-use Rattle.roc_sequence.proofs.Fronts.{rest_at, no_rest, front_whole}
+use Rattle.roc_sequence.proofs.Fronts.{rest_at, no_rest}
+use Rattle.roc_node_submit.proofs.Coords.{lines_behind}
 
 -- ---- a drain
 
@@ -154,9 +154,6 @@ refused_one S request old new g h true one e = absurd (cc)
 gathers_none : (program : Workload) (g : Gathered) → Gathers program [] [] g g
 gathers_none program g = record { outbox = sym (append-nil g.messages); text = sym (append-nil g.text) }
 
-lines_behind : (program : Workload) (some more : List Line) → lines_text program some ++ lines_text program more ≡ lines_text program (some ++ more)
-lines_behind program some more = sym (flat_map-append (line_text program) some more)
-
 gathers_more : (program : Workload) (messages more : List Outgoing) (lines next : List Line) (g h i : Gathered) → Gathers program messages lines g h → Gathers program more next h i → Gathers program (messages ++ more) (lines ++ next) g i
 gathers_more program messages more lines next g h i p q = record {
   outbox = q.outbox ∙ ap (λ l. l ++ more) p.outbox ∙ append_assoc g.messages messages more;
@@ -251,10 +248,6 @@ some_all S items n count start now g h so over same = subst (λ k. SubmitsSome S
     none = no_rest items count over
 
 -- ---- those of each file
-
--- what stands from a place on
-pub items_are : {A : Type 0} (xs : List A) (n : ℕ) → take (length xs - n) (drop n xs) ≡ drop n xs
-items_are xs n = front_whole (drop n xs) (length xs - n) (let l = length-drop n xs in omega arith)
 
 behind : (xs items : List Request) (n m count : ℕ) → items ≡ drop n xs → m ≡ n + count → drop count items ≡ drop m xs
 behind xs items n m count from next = ap (drop count) from ∙ drop-drop count n xs ∙ ap (λ k. drop k xs) (sym next)

@@ -1,42 +1,30 @@
 -- What a coordinator's node keeps over a drain, a submission, an event and the moment when it goes over
-use Rattle.std.proofs.Common.{◌≡◌, ℕ, ◌+◌, ◌<◌, ℤ, Bool, true, false, not, ◌&&◌, ◌||◌, ◌==◌, nat_lt, List, [], ◌∷◌, ◌++◌, length, get_or, Option, Some, None, refl, sym, ◌∙◌, ap, subst}
+use Rattle.std.proofs.Common.{◌≡◌, ℕ, ◌+◌, ◌<◌, Bool, true, false, not, ◌&&◌, ◌||◌, ◌==◌, nat_lt, List, [], ◌∷◌, ◌++◌, length, get_or, Option, Some, None, refl, sym, ◌∙◌, ap, subst}
 use Rattle.std.proofs.Common.{append-nil, arith, cond}
-use Rattle.std.proofs.lemmas.Bool.{false≢true, ltb-true}
+use Rattle.std.proofs.lemmas.Bool.{false≢true, ltb-true, and_parts}
 use Rattle.std.proofs.lemmas.List.Elements.{filter-append}
 use Rattle.std.proofs.lemmas.List.Folds.{list_all_at}
 use Rattle.std.proofs.lemmas.List.FromFn.{length-range_with_len, get_or-range_with_len}
 use Rattle.std.proofs.lemmas.List.{length-append}
 use Rattle.std.specs.List.{list_any, range_with_len}
 use Rattle.std.specs.Prelude.{filter}
-use Rattle.roc_sequence.proofs.Found.{found_has}
-use Rattle.roc_sequence.proofs.Members.{has_map}
+use Rattle.roc_sequence.proofs.Fronts.{no_elements}
 use Rattle.roc_base.specs.declared.id.TxnId.{TxnId}
 use Rattle.roc_base.specs.declared.node.Shard.{Shard}
-use Rattle.roc_base.specs.TxnId.{is_txn}
 use Rattle.roc_plan.specs.Groups.{Plan}
 use Rattle.roc_program.specs.Program.{Workload}
 use Rattle.roc_report.specs.Line.{Line}
 use Rattle.roc_sched.specs.declared.line.Request.{Request}
 use Rattle.roc_msg.specs.declared.msg.Msg.{Msg}
-use Rattle.roc_msg.specs.declared.msg.Msg.TheVariants.{StartOk, CommitOk, ReadOk, Drained, Switched}
+use Rattle.roc_msg.specs.declared.msg.Msg.TheVariants.{Drained, Switched}
 use Rattle.roc_msg.specs.declared.reason.Reason.{Reason}
 use Rattle.roc_msg.specs.declared.reason.Reason.TheVariants.{Foreign, Stale}
 use Rattle.roc_coord.specs.declared.handled.Handled.{Handled}
-use Rattle.roc_coord.specs.declared.transaction.Transaction.{Transaction}
-use Rattle.roc_coord.specs.declared.transaction.TakenStart.{TakenStart}
-use Rattle.roc_coord.specs.declared.transaction.TakenCommit.{TakenCommit}
-use Rattle.roc_coord.specs.Ids.{ids_of, view_ids}
+use Rattle.roc_coord.specs.declared.handled.Handled.TheVariants as core
 use Rattle.roc_coord.specs.Renewed.{renewed_coord}
-use Rattle.roc_coord.specs.Starts.{with_starts}
-use Rattle.roc_coord.specs.State.{CoordState, CoordStep, find_transaction, with_transaction, find_view, with_view}
+use Rattle.roc_coord.specs.State.{CoordState, CoordStep}
 use Rattle.roc_coord.specs.Submit.{next_id}
-use Rattle.roc_coord.specs.Step.{after_message, after_startok, after_commitok, unless_refused, startok_taken, startok_refusal, with_startok, with_commits, commitok_taken, commitok_refusal}
-use Rattle.roc_coord.specs.Step.{with_commitok, reply_now, after_readok, readok_taken}
-use Rattle.roc_readonly.specs.declared.view.Round.{Round}
-use Rattle.roc_readonly.specs.declared.view.Round.TheVariants.{Waits, Ends, GoesOn}
-use Rattle.roc_readonly.specs.declared.view.TakenRead.{TakenRead}
-use Rattle.roc_readonly.specs.declared.view.View.{View}
-use Rattle.roc_readonly.specs.Round.{with_readok, readok_refusal, round_of, next_round}
+use Rattle.roc_coord.specs.Step.{after_message, unless_refused}
 use Rattle.roc_epoch.specs.Files.{is_file, own_file}
 use Rattle.roc_epoch.specs.declared.file.File.{File}
 use Rattle.roc_grown.specs.Coord as grown
@@ -48,71 +36,26 @@ use Rattle.roc_grown_node.specs.declared.judging.GrownJudged.TheVariants.{Delive
 use Rattle.roc_grown_node.specs.Judgement.{grown_judged}
 use Rattle.roc_node.specs.NodeEvent.{NodeEvent, took, silent}
 use Rattle.roc_node_submit.specs.EachAnswered.{is_answer, is_answer_to}
+use Rattle.roc_node_submit.specs.CoordRun.{reply_lines, answered_then}
 use Rattle.roc_grown_submit.specs.GrownCoordRun.{plan_of_file, grown_step_of_judged, grown_step_of_event, grown_reply_lines, grown_answered_then}
-use Rattle.roc_grown_submit.proofs.Counts.{waiting, waits, ids_with}
-use Rattle.roc_grown_submit.proofs.Keeping.{Kept, kept_same, kept_replied, kept_read}
-
-pub none_has : {A : Type 0} (xs : List A) → length xs ≡ 0 → xs ≡ []
-none_has [] e = refl
-none_has (x ∷ xs) e = absurd (let n = e in omega arith)
+use Rattle.roc_node_submit.proofs.Counts.{waiting}
+use Rattle.roc_node_submit.proofs.Keeping.{Kept}
+use Rattle.roc_node_submit.proofs.KeptSteps.{kept_message as core_kept_message}
 
 -- ---- a step of the core, of any plan, where any program names procedures
 
-module _ (plan : Plan) (program : Workload) (number : ℕ) (taken : List Request) (state : CoordState) (lines : List Line) (answered : ℕ) (k : Kept program number taken state lines answered) where
-  abbrev KeptStep : CoordStep → Type 0
-  KeptStep r = Kept program number taken r.state (lines ++ grown_reply_lines (handled_so r.answer)) (grown_answered_then answered (handled_so r.answer))
+-- what a core's answer tells, a grown one's tells too
+kept_message : (plan : Plan) (program : Workload) (number : ℕ) (taken : List Request) (state : CoordState) (lines : List Line) (answered : ℕ) → Kept program number taken state lines answered → (msg : Msg)
+    → Kept program number taken (after_message plan state msg).state (lines ++ grown_reply_lines (handled_so (after_message plan state msg).answer)) (grown_answered_then answered (handled_so (after_message plan state msg).answer))
+kept_message plan program number taken state lines answered k msg = go r.answer (core_kept_message plan program number taken state lines answered k msg)
+  where
+    r : CoordStep
+    r = after_message plan state msg
 
-  nothing_new : Kept program number taken state (lines ++ []) answered
-  nothing_new = kept_same program number taken state state.pending state.views lines answered refl refl k
-
-  changed : (x : Transaction) → Kept program number taken (with_transaction state x) (lines ++ []) answered
-  changed x = kept_same program number taken state (with_transaction state x).pending state.views lines answered (ids_with (λ (y : Transaction). y.id) x state.pending) refl k
-
-  read : (v : View) → Kept program number taken (with_view state v) (lines ++ []) answered
-  read v = kept_same program number taken state state.pending (with_view state v).views lines answered refl (ids_with (λ (w : View). w.id) v state.views) k
-
-  kept_startok : (id : TxnId) (found : Option Transaction) (ok : TakenStart) (shard : Shard) → KeptStep (after_startok plan state id found ok shard)
-  kept_startok id None ok shard = nothing_new
-  kept_startok id (Some x) ok shard = go (startok_refusal plan x ok shard)
-    where
-      go : (why : Option Reason) → KeptStep (unless_refused state why (startok_taken plan state (with_startok x ok)))
-      go (Some reason) = nothing_new
-      go None = changed (with_commits plan (with_starts plan (with_startok x ok)))
-
-  kept_commitok : (id : TxnId) (found : Option Transaction) (ok : TakenCommit) → find_transaction id state.pending ≡ found → KeptStep (after_commitok plan state id found ok)
-  kept_commitok id None ok e = nothing_new
-  kept_commitok id (Some x) ok e = go (commitok_refusal plan x ok)
-    where
-      replied : (reply : Option (List ℤ)) → KeptStep (commitok_taken plan state (with_commitok x ok) reply)
-      replied None = changed (with_commitok x ok)
-      replied (Some reply) =
-          let has = found_has (λ (y : Transaction). is_txn y.id id) state.pending x e in
-          kept_replied program number taken state lines answered x.id reply k (waits x.id (ids_of state.pending) (has_map (λ (y : Transaction). y.id) x state.pending has.0))
-
-      go : (why : Option Reason) → KeptStep (unless_refused state why (commitok_taken plan state (with_commitok x ok) (reply_now plan (with_commitok x ok))))
-      go (Some reason) = nothing_new
-      go None = replied (reply_now plan (with_commitok x ok))
-
-  kept_readok : (id : TxnId) (found : Option View) (round : ℕ) (ok : TakenRead) (shard : Shard) → find_view id state.views ≡ found → KeptStep (after_readok plan state id found round ok shard)
-  kept_readok id None round ok shard e = nothing_new
-  kept_readok id (Some v) round ok shard e = go (readok_refusal plan v round ok shard)
-    where
-      came_to : (r : Round) → KeptStep (readok_taken plan state (with_readok v ok) r)
-      came_to Waits = read (with_readok v ok)
-      came_to (Ends reply) =
-          let has = found_has (λ (w : View). is_txn w.id id) state.views v e in
-          kept_read program number taken state lines answered v.id reply k (waits v.id (view_ids state.views) (has_map (λ (w : View). w.id) v state.views has.0))
-      came_to GoesOn = read (next_round (with_readok v ok))
-
-      go : (why : Option Reason) → KeptStep (unless_refused state why (readok_taken plan state (with_readok v ok) (round_of plan (with_readok v ok))))
-      go (Some reason) = nothing_new
-      go None = came_to (round_of plan (with_readok v ok))
-
-  kept_message : (msg : Msg) → KeptStep (after_message plan state msg)
-  kept_message (StartOk id group shard bound outs edges facts) = kept_startok id (find_transaction id state.pending) _ shard
-  kept_message (CommitOk id shard outs) = kept_commitok id (find_transaction id state.pending) _ refl
-  kept_message (ReadOk id round group shard versions outs) = kept_readok id (find_view id state.views) round _ shard refl
-  kept_message msg = nothing_new
+    go : (a : Handled) → Kept program number taken r.state (lines ++ reply_lines a) (answered_then answered a) → Kept program number taken r.state (lines ++ grown_reply_lines (handled_so a)) (grown_answered_then answered (handled_so a))
+    go core.Done k = k
+    go (core.Answered id reply) k = k
+    go (core.Ignored reason) k = k
 
 -- where no more is given, one with nothing unanswered stays so
 stays_none : (program : Workload) (number : ℕ) (taken : List Request) (old new : CoordState) (lines more : List Line) (a b : ℕ) → Kept program number taken old lines a → Kept program number taken new (lines ++ more) b
@@ -122,7 +65,7 @@ stays_none program number taken old new lines more a b p q none =
     let grows : length (filter is_answer (lines ++ more)) ≡ length (filter is_answer lines) + length (filter is_answer more) =
     ap (λ (l : List Line). length l) (filter-append is_answer lines more) ∙ length-append (filter is_answer lines) (filter is_answer more) in
     let zero : length old.unanswered ≡ 0 = ap (λ (l : List TxnId). length l) none in
-    none_has new.unanswered (omega arith)
+    no_elements new.unanswered (omega arith)
 
 -- it goes over with nothing unanswered
 kept_renewed : (program : Workload) (number : ℕ) (taken : List Request) (s : CoordState) (lines : List Line) (a : ℕ) → Kept program number taken s lines a → s.unanswered ≡ [] → Kept program number taken (renewed_coord s) lines a
@@ -146,11 +89,6 @@ pub record Lasts (plan : Plan) (program : Workload) (number : ℕ) (taken : List
   pub rests : (t : TxnId) → s.upto ≡ Some t → s.switched ≡ false → (s.draining ≡ true) × (s.core.unanswered ≡ [])
   pub over : s.switched ≡ true → have_all_switched plan.program.shards s.at ≡ true
 
-pub both_so : (a b : Bool) → (a && b) ≡ true → (a ≡ true) × (b ≡ true)
-both_so true true e = (refl, refl)
-both_so true false e = absurd (false≢true e)
-both_so false b e = absurd (false≢true e)
-
 -- ---- a drain, and what is told behind an answer
 
 module _ (plan : Plan) (program : Workload) (number : ℕ) (taken : List Request) (lines : List Line) (answered : ℕ) where
@@ -163,7 +101,7 @@ module _ (plan : Plan) (program : Workload) (number : ℕ) (taken : List Request
 
       go : (b : Bool) → grown.is_drained s ≡ b
           → Lasts plan program number taken (cond {A = DrainStep} b (record { state = grown.telling s; sends = grown.drained_sends plan (next_id s.core) }) (record { state = s; sends = [] })).state lines answered
-      go true e = let both = both_so s.draining (grown.is_empty s.core.unanswered) e in record { kept = k.kept; rests = λ t told early. (both.0, empty s.core.unanswered both.1); over = k.over }
+      go true e = let both = and_parts s.draining (grown.is_empty s.core.unanswered) e in record { kept = k.kept; rests = λ t told early. (both.0, empty s.core.unanswered both.1); over = k.over }
       go false e = k
 
   pub lasts_drain : (s : GrownCoordState) → Lasts plan program number taken s lines answered → Lasts plan program number taken (grown.after_drain plan s).state lines answered

@@ -1,7 +1,5 @@
 mod Closing
-mod Counts
 mod Gathered
-mod Keeping
 mod Lasting
 mod Replied
 mod Runs

@@ -1,24 +1,22 @@
 -- A run keeps each id that it gives until the id is answered, before and behind the moment when it goes over, and at its end each was
-use Rattle.std.proofs.Common.{◌≡◌, ℕ, ◌<◌, ℤ, Bool, true, false, not, ◌&&◌, ◌==◌, nat_lt, nat_le, List, [], ◌∷◌, ◌++◌, length, Option, Some, None, Err, refl, sym, ◌∙◌, ap, subst, append-nil}
+use Rattle.std.proofs.Common.{◌≡◌, ℕ, ◌<◌, Bool, true, false, not, ◌&&◌, ◌==◌, nat_lt, List, [], ◌∷◌, ◌++◌, length, Option, Some, None, Err, refl, sym, ◌∙◌, ap, subst, append-nil}
 use Rattle.std.proofs.Common.{append_assoc, arith, cond}
-use Rattle.std.proofs.lemmas.Bool.{false≢true, leb-false, lt-ltb, eq-eqb, eqb-true}
-use Rattle.std.proofs.lemmas.Bool.Decides.{nat_tests}
+use Rattle.std.proofs.lemmas.Bool.{false≢true, lt-ltb, eq-eqb, eqb-true, and_parts}
 use Rattle.std.proofs.lemmas.List.{map-append}
 use Rattle.std.specs.Prelude.{filter, if◌then◌else◌}
 use Rattle.std.specs.Result.{is_ok}
 use Rattle.roc_base.specs.declared.id.TxnId.{TxnId}
-use Rattle.roc_plan.specs.Groups.{Plan, procedure_of, is_view_of}
+use Rattle.roc_plan.specs.Groups.{Plan, is_view_of}
 use Rattle.roc_program.specs.LookUps.{procedure_named}
 use Rattle.roc_program.specs.Program.{Workload}
 use Rattle.roc_report.specs.Line.{Line, Submit}
 use Rattle.roc_sched.specs.declared.line.Request.{Request}
 use Rattle.roc_coord.specs.declared.handled.SubmitFault.{SubmitFault}
-use Rattle.roc_coord.specs.declared.handled.SubmitFault.TheVariants.{NoProc, Args, Spent, Busy}
 use Rattle.roc_coord.specs.declared.transaction.Transaction.{Transaction}
 use Rattle.roc_coord.specs.Ids.{ids_of, view_ids}
 use Rattle.roc_coord.specs.Starts.{with_starts}
 use Rattle.roc_coord.specs.State.{CoordState}
-use Rattle.roc_coord.specs.Submit.{accepted, accepted_view, new_transaction, next_id, most_transactions, most_pending, refusal_of, refused_or_accepted, after_submit}
+use Rattle.roc_coord.specs.Submit.{accepted, accepted_view, new_transaction, next_id, refusal_of, refused_or_accepted, after_submit}
 use Rattle.roc_readonly.specs.declared.view.View.{View}
 use Rattle.roc_readonly.specs.Round.{first_round}
 use Rattle.roc_epoch.specs.Files.{own_plan}
@@ -32,25 +30,15 @@ use Rattle.roc_grown_submit.specs.GrownCoordRun.{with_grown_submission, grown_ac
 use Rattle.roc_grown_submit.specs.GrownCoordRun.{submitted_later, of_later}
 use Rattle.roc_grown_submit.specs.GrownCoordRun.{grown_submissions_of, grown_submitted_node, grown_coord_turn, IsGrownCoordRun, begun, goes_on}
 use Rattle.roc_grown_submit.specs.GrownEnd.{naming}
-use Rattle.roc_grown_submit.proofs.Counts.{one_if, waiting, AreShared, shared_more, shared_swap}
-use Rattle.roc_grown_submit.proofs.Keeping.{Kept, kept_given, times_given}
-use Rattle.roc_grown_submit.proofs.Lasting.{Lasts, lasts_drain, lasts_event, both_so, none_has}
+use Rattle.roc_node_submit.proofs.Counts.{one_if, waiting, AreShared, shared_more, shared_swap}
+use Rattle.roc_node_submit.proofs.Keeping.{Kept, kept_given, none_below}
+use Rattle.roc_node_submit.proofs.Runs.{unspent}
+use Rattle.roc_grown_submit.proofs.Lasting.{Lasts, lasts_drain, lasts_event}
+use Rattle.roc_sequence.proofs.Fronts.{no_elements}
 
 -- each name of a procedure of the one program means the same in the other
 abbrev pub NamesAlike : (old new : Workload) → Type 0
 NamesAlike old new = (name : List ℕ) (proc : ℕ) → procedure_named old name ≡ Some proc → procedure_named new name ≡ Some proc
-
--- a submission that is not refused has a sequence number left
-unspent : (plan : Plan) (s : CoordState) (proc : ℕ) (args : List ℤ) → refusal_of plan s proc args ≡ None → s.next < most_transactions
-unspent plan s proc args e = leb-false most_transactions s.next
-    (go (not (nat_lt proc (length plan.program.procedures))) (not (length args == (procedure_of plan proc).arguments))
-    (nat_le most_transactions s.next) (nat_le most_pending (length s.unanswered)) e)
-  where
-    go : (a b c d : Bool) → (if a then Some NoProc else if b then Some Args else if c then Some Spent else if d then Some Busy else None) ≡ None → c ≡ false
-    go true b c d e = absurd (cc)
-    go false true c d e = absurd (cc)
-    go false false true d e = absurd (cc)
-    go false false false d e = refl
 
 -- ---- a core accepts a call, under any plan
 
@@ -181,7 +169,7 @@ module _ (S : GrownNodeSetting) (number : ℕ) (names : NamesAlike S.plan.progra
       go : (b : Bool) → (s.state.switched && length s.left == 0) ≡ b → LastsOn taken (s.left ++ s.later) (cond b (of_later (grown_submitted_all S s s.later)) s)
       go true e =
           let m = lasts_all s.later taken s k in
-          let none = none_has s.left (eqb-true (length s.left) 0 (both_so s.state.switched (length s.left == 0) e).1) in record {
+          let none = no_elements s.left (eqb-true (length s.left) 0 (and_parts s.state.switched (length s.left == 0) e).1) in record {
             more = m.more;
             parts = ap (λ (l : List Request). l ++ s.later) none ∙ m.parts;
             lasts = m.lasts;
@@ -221,18 +209,6 @@ module _ (S : GrownNodeSetting) (number : ℕ) (names : NamesAlike S.plan.progra
     pub parts : all ≡ taken ++ (node.left ++ node.later)
     pub lasts : Lasts S.plan (naming S) number taken node.state node.lines node.answered
 
-  none_below : (id : TxnId) → 0 ≡ times_given number 0 id
-  none_below id = go (number == id.coord) (nat_lt id.seq 0) none
-    where
-      none : nat_lt id.seq 0 ≡ false
-      none = grind (arith, nat_tests)
-
-      go : (a b : Bool) → b ≡ false → 0 ≡ one_if (a && b)
-      go true true e = absurd (false≢true (sym e))
-      go false true e = refl
-      go true false e = refl
-      go false false e = refl
-
   -- behind a drain and submissions
   lasts_submitted : (all : List Request) (node : GrownCoordNodeState) → LastsRun all node → LastsRun all (grown_submitted_node S node)
   lasts_submitted all node r =
@@ -259,7 +235,7 @@ module _ (S : GrownNodeSetting) (number : ℕ) (names : NamesAlike S.plan.progra
     taken = [];
     parts = refl;
     lasts = record {
-      kept = record { numbered = refl; next = refl; bounded = omega arith; given = none_given; each = none_below; all = refl; shared = λ id. refl; counted = refl };
+      kept = record { numbered = refl; next = refl; bounded = omega arith; given = none_given; each = none_below number; all = refl; shared = λ id. refl; counted = refl };
       rests = λ t told early. absurd (cc);
       over = λ now. absurd (false≢true now);
     };
@@ -268,8 +244,8 @@ module _ (S : GrownNodeSetting) (number : ℕ) (names : NamesAlike S.plan.progra
 
   answers_of : (all : List Request) (node : GrownCoordNodeState) → LastsRun all node → are_all_answered node ≡ true → AreEachAnswered (naming S) number all (as_plain node)
   answers_of all node r e =
-      let both = both_so (length (node.left ++ node.later) == 0) (length node.state.core.unanswered == 0) e in
-      answers (none_has (node.left ++ node.later) (eqb-true (length (node.left ++ node.later)) 0 both.0)) (none_has node.state.core.unanswered (eqb-true (length node.state.core.unanswered) 0 both.1))
+      let both = and_parts (length (node.left ++ node.later) == 0) (length node.state.core.unanswered == 0) e in
+      answers (no_elements (node.left ++ node.later) (eqb-true (length (node.left ++ node.later)) 0 both.0)) (no_elements node.state.core.unanswered (eqb-true (length node.state.core.unanswered) 0 both.1))
     where
       once : (taken : List Request) → Kept (naming S) number taken node.state.core node.lines node.answered → node.state.core.unanswered ≡ [] → (seq : ℕ) → seq < length taken
           → length (filter (is_answer_to (record { coord = number; seq = seq })) node.lines) ≡ 1

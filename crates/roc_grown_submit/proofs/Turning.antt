@@ -1,6 +1,5 @@
 -- One turn of a coordinator's node after another
 use Rattle.std.proofs.Common.{◌≡◌, ℕ, ◌+◌, Bool, true, false, List, [], ◌∷◌, ◌++◌, length, drop, map, refl, sym, ◌∙◌, ap, subst, append-nil, append_assoc, length-append, Option, Result, Ok, Err}
-use Rattle.std.proofs.lemmas.Grind.{flat_map-append}
 use Rattle.std.specs.Prelude.{IfOk}
 use Rattle.roc_epoch.specs.declared.file.File.{File}
 use Rattle.roc_grown.specs.Coord.{GrownCoordState, first_grown_coord}
@@ -30,9 +29,10 @@ use Rattle.roc_node.specs.Moves.{Moves}
 use Rattle.roc_node.specs.NodeEvent.{NodeEvent, took, silent, receive_of}
 use Rattle.roc_node_submit.specs.declared.ends.SubmitEnd.{SubmitEnd}
 use Rattle.roc_node_submit.specs.declared.ends.SubmitEnd.TheVariants as end
+use Rattle.roc_node_submit.proofs.Coords.{lines_behind}
 use Rattle.roc_program.specs.Program.{Workload}
 use Rattle.roc_report.specs.Line.{Line}
-use Rattle.roc_report.specs.Text.{line_text, lines_text}
+use Rattle.roc_report.specs.Text.{lines_text}
 use Rattle.roc_sched.specs.declared.line.Request.{Request}
 use Rattle.roc_wire.specs.declared.header.Header.{Header}
 
@@ -172,9 +172,6 @@ took_node S requests later event old new output messages traffic lines h =
     ∙ ap (λ n. node_at new.coord (drop n requests) (drop old.second later) (sent new.coord) (asked ++ map sending output.sends.items) told count) (sym h.first)
     ∙ ap (λ n. node_at new.coord (drop new.first requests) (drop n later) (sent new.coord) (asked ++ map sending output.sends.items) told count) (sym h.second)
     ∙ ap (node_at new.coord (drop new.first requests) (drop new.second later) (sent new.coord) (asked ++ map sending output.sends.items) told) (sym h.answered)
-
-lines_behind : (program : Workload) (some more : List Line) → lines_text program some ++ lines_text program more ≡ lines_text program (some ++ more)
-lines_behind program some more = sym (flat_map-append (line_text program) some more)
 
 -- lines behind others
 told_more : (program : Workload) (traffic next : List LinkEvent) (lines more : List Line) (pieces others : List (List ℕ)) (text : List ℕ) (a b c : Seen) → text ≡ lines_text program more

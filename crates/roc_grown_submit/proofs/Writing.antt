@@ -4,7 +4,7 @@ use Rattle.roc_grown_node.specs.Setting.{GrownNodeSetting}
 use Rattle.roc_grown_submit.specs.GrownCoordRun.{GrownCoordNodeState, first_grown_coord_node_state, grown_step_of_event, grown_reply_lines}
 use Rattle.roc_grown_submit.specs.GrownEnd.{naming, grown_half, grown_closing_text}
 use Rattle.roc_grown_submit.specs.GrownPieces.{AreGrownWritten, none_written, grown_half_pieces, WritesGrownInPieces, broken_off, cut_submissions, cut_reply, cut_end, over}
-use Rattle.roc_grown_submit.specs.Inner.GrownTurn.{bare_node, Seen, HalfSubmits, HalfTakes, GrownRanSo, ClosesInPiece}
+use Rattle.roc_grown_submit.specs.Inner.GrownTurn.{bare_node, Seen, HalfSubmits, HalfTakes, GrownRanSo, ClosesGrownInPiece}
 use Rattle.roc_grown_submit.specs.declared.coord_node.CoordNode.{CoordNode}
 use Rattle.roc_grown_submit.proofs.Turning.{Halved, halved}
 use Rattle.roc_io.proofs.Pieces.{cut_behind, none_behind}
@@ -59,7 +59,7 @@ module _ (S : GrownNodeSetting) (number : ℕ) (requests later : List Request) (
   -- whichever half the node is in, its last lines are these
   closes_so : (e : SubmitEnd) (events : List NodeEvent) (node : GrownCoordNodeState) (half : Bool) (pieces : List (List ℕ)) (b : Seen) (out : Option (List (List ℕ))) (last : List ℕ)
       → AreGrownWritten S number requests later events node pieces → Adds a.pieces b.pieces (grown_half_pieces S node half pieces) → last ≡ grown_closing_text (grown_half S node half)
-      → (node_last : GrownCoordNodeState) → grown_closing_text node_last ≡ last → ClosesInPiece e node_last b.pieces out → WritesGrownInPieces S number requests later a.pieces out e
+      → (node_last : GrownCoordNodeState) → grown_closing_text node_last ≡ last → ClosesGrownInPiece e node_last b.pieces out → WritesGrownInPieces S number requests later a.pieces out e
   closes_so end.Done events node half pieces b out last written adds is at same closes =
       over end.Done events node half pieces refl written
       (subst (λ t. Adds a.pieces out (grown_half_pieces S node half pieces ++ t ∷ [])) (same ∙ is) (Adds-trans a.pieces b.pieces out (grown_half_pieces S node half pieces) (grown_closing_text at ∷ []) adds closes))
@@ -76,13 +76,13 @@ module _ (S : GrownNodeSetting) (number : ℕ) (requests later : List Request) (
 
   -- all turns were taken
   pub turns_pieces : (e : SubmitEnd) (count : ℕ) (coord_node : CoordNode) (b : Seen) (out : Option (List (List ℕ))) → GrownRanSo S number requests later count coord_node a b
-      → ClosesInPiece e (bare_node coord_node requests later) b.pieces out → WritesGrownInPieces S number requests later a.pieces out e
+      → ClosesGrownInPiece e (bare_node coord_node requests later) b.pieces out → WritesGrownInPieces S number requests later a.pieces out e
   turns_pieces e count coord_node b out r closes =
       let does = r.does in closes_so e r.events _ false r.pieces b out _ r.written does.in_pieces refl (bare_node coord_node requests later) refl closes
 
   -- the drain and the submissions before a turn leave all answered
   pub answered_pieces : (e : SubmitEnd) (count : ℕ) (old mid : CoordNode) (b c : Seen) (out : Option (List (List ℕ))) → GrownRanSo S number requests later count old a b
-      → HalfSubmits (Ok tt) S requests later old mid b c → ClosesInPiece e (bare_node mid requests later) c.pieces out → WritesGrownInPieces S number requests later a.pieces out e
+      → HalfSubmits (Ok tt) S requests later old mid b c → ClosesGrownInPiece e (bare_node mid requests later) c.pieces out → WritesGrownInPieces S number requests later a.pieces out e
   answered_pieces e count old mid b c out r s closes =
       let h = halved S number requests later count old mid a b c r s in
       let does = h.does in

@@ -7,7 +7,7 @@ ghost use Rattle.roc_grown_node.specs.Setting.{grown_node_setting};
 ghost use Rattle.roc_grown_submit.specs.GrownCoordRun.{are_all_answered};
 ghost use Rattle.roc_grown_submit.specs.GrownEnd.{grown_closing_text, SubmitsGrowing, BindsAndSubmitsGrowing};
 ghost use Rattle.roc_grown_submit.specs.GrownPieces.{WritesGrownInPieces};
-ghost use Rattle.roc_grown_submit.specs.Inner.GrownTurn.{bare_node, ClosesGrown, ClosesInPiece};
+ghost use Rattle.roc_grown_submit.specs.Inner.GrownTurn.{bare_node, ClosesGrown, ClosesGrownInPiece};
 ghost use Rattle.roc_io.specs.Call.{link_call, link_view, sink_call};
 ghost use Rattle.roc_io.specs.Cause.{HasCause};
 ghost use Rattle.roc_node.specs.NodeLine.{node_line_text, node_lines_text};
@@ -175,7 +175,7 @@ fn close<S: Sink>(
     ensures link { submit_link_failed result ≡ false }
     ensures unlogged { submit_book_failed result ≡ false }
     ensures closes { ClosesGrown result (bare_node coord_node.now requests.now later.now) (S.taken out.old) (S.taken out.new) }
-    ensures pieces { ClosesInPiece result (bare_node coord_node.now requests.now later.now) (S.pieces out.old) (S.pieces out.new) }
+    ensures pieces { ClosesGrownInPiece result (bare_node coord_node.now requests.now later.now) (S.pieces out.old) (S.pieces out.new) }
 {
     let mut text = Vec::new(alloc);
     if push_closing(alloc, &mut text, coord_node, requests, later).is_err() {

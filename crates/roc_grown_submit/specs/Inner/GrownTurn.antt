@@ -273,10 +273,10 @@ ClosesGrown LinkFault node old new = ⊥
 ClosesGrown BookFault node old new = ⊥
 
 -- in one write, or a front of them, or none
-abbrev pub ClosesInPiece : SubmitEnd → GrownCoordNodeState → Option (List (List ℕ)) → Option (List (List ℕ)) → Type 0
-ClosesInPiece Done node old new = Adds old new (grown_closing_text node ∷ [])
-ClosesInPiece Unanswered node old new = Adds old new (grown_closing_text node ∷ [])
-ClosesInPiece SinkFault node old new = AddsCut old new [] (grown_closing_text node)
-ClosesInPiece NoMemory node old new = new ≡ old
-ClosesInPiece LinkFault node old new = ⊥
-ClosesInPiece BookFault node old new = ⊥
+abbrev pub ClosesGrownInPiece : SubmitEnd → GrownCoordNodeState → Option (List (List ℕ)) → Option (List (List ℕ)) → Type 0
+ClosesGrownInPiece Done node old new = Adds old new (grown_closing_text node ∷ [])
+ClosesGrownInPiece Unanswered node old new = Adds old new (grown_closing_text node ∷ [])
+ClosesGrownInPiece SinkFault node old new = AddsCut old new [] (grown_closing_text node)
+ClosesGrownInPiece NoMemory node old new = new ≡ old
+ClosesGrownInPiece LinkFault node old new = ⊥
+ClosesGrownInPiece BookFault node old new = ⊥

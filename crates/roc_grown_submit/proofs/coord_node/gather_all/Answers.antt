@@ -1,6 +1,7 @@
 use Rattle.std.proofs.Common.{◌-◌, drop, length, refl, take}
-use Rattle.roc_grown_submit.proofs.Gathered.{gathers_told, items_are}
+use Rattle.roc_grown_submit.proofs.Gathered.{gathers_told}
 use Rattle.roc_grown_submit.proofs.coord_node.gather_all.Goals as goal
+use Rattle.roc_node_submit.proofs.CoordNodes.{items_are}
 
 pub returns-clause-gathers : goal.returns-clause-gathers
 returns-clause-gathers c =

@@ -1,6 +1,7 @@
 use Rattle.std.proofs.Common.{◌-◌, drop, length, refl, take}
-use Rattle.roc_grown_submit.proofs.Gathered.{first_submitted, items_are}
+use Rattle.roc_grown_submit.proofs.Gathered.{first_submitted}
 use Rattle.roc_grown_submit.proofs.coord_node.submit_first.Goals as goal
+use Rattle.roc_node_submit.proofs.CoordNodes.{items_are}
 
 pub returns-in-Ok-clause-submits : goal.returns-in-Ok-clause-submits
 returns-in-Ok-clause-submits c =

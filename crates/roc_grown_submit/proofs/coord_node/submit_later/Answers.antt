@@ -1,6 +1,7 @@
 use Rattle.std.proofs.Common.{◌-◌, drop, length, refl, sym, take}
-use Rattle.roc_grown_submit.proofs.Gathered.{items_are, later_submitted, later_wait_left, later_wait_plain}
+use Rattle.roc_grown_submit.proofs.Gathered.{later_submitted, later_wait_left, later_wait_plain}
 use Rattle.roc_grown_submit.proofs.coord_node.submit_later.Goals as goal
+use Rattle.roc_node_submit.proofs.CoordNodes.{items_are}
 
 pub returns-then-not-switched-clause-submits : goal.returns-then-not-switched-clause-submits
 returns-then-not-switched-clause-submits c = later_wait_plain _ _ _ _ _ c.if-not-switched.ensures

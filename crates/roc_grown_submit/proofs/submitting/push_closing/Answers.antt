@@ -1,10 +1,10 @@
 use Rattle.std.proofs.Common.{ap, arith, length, length-drop}
 use Rattle.roc_grown_submit.proofs.Closing.{closing_told}
-use Rattle.roc_grown_submit.proofs.Gathered.{items_are}
 use Rattle.roc_grown_submit.proofs.submitting.push_closing.Goals as goal
 use Rattle.roc_grown_submit.specs.Inner.GrownTurn.{bare_node}
 use Rattle.roc_sched.specs.declared.line.Request.{Request}
 use Rattle.std.specs.Prelude.{List}
+use Rattle.roc_node_submit.proofs.CoordNodes.{items_are}
 
 pub returns : goal.returns
 returns c =
