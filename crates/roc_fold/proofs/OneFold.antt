@@ -42,7 +42,7 @@ module _ (plan : Plan) (header : Header) where
   one_submission (serving s v) proc args g h a b = elim a [ ]
   one_submission (coordinating c) proc args g h (i, x, a) (j, y, b) = a ∙ sym b
 
-  one_event : (core : Core) (line : LogLine) (g h : GivenByEvent) → Gives plan header core line g → Gives plan header core line h → g ≡ h
+  pub one_event : (core : Core) (line : LogLine) (g h : GivenByEvent) → Gives plan header core line g → Gives plan header core line h → g ≡ h
   one_event core (In bytes) g h (m, x, a) (n, y, b) =
       let both : Some m ≡ Some n = sym x ∙ y in
       let same : m ≡ n = cc in

@@ -1,5 +1,5 @@
 -- Lines that are taken, and lines that cannot stand next
-use Rattle.std.proofs.Common.{◌≡◌, ◌≢◌, ℕ, ◌+◌, ◌<◌, List, [], ◌∷◌, ◌++◌, length, take, drop, get_or, sym, ap, subst, ◌∙◌, append-nil, Result, Ok, Err, OnOk}
+use Rattle.std.proofs.Common.{◌≡◌, ◌≢◌, ℕ, ◌+◌, ◌<◌, List, [], ◌∷◌, ◌++◌, length, take, drop, get_or, sym, ap, subst, ◌∙◌, append-nil}
 use Rattle.roc_sequence.proofs.Fronts.{front_more}
 use Rattle.roc_base.specs.declared.id.TxnId.{TxnId}
 use Rattle.roc_msg.specs.declared.outbox.Ran.{Ran}
@@ -37,10 +37,6 @@ refuses_event plan header f line d n h t = go h t
 pub folds_more : (plan : Plan) (header : Header) (first : Core) (lines : List LogLine) (i : ℕ) (line : LogLine) (f h : Folding) → i < length lines → line ≡ get_or lines i line
     → FoldsTo plan header first (take i lines) f → TakesLine plan header f line h → FoldsTo plan header first (take (i + 1) lines) h
 folds_more plan header first lines i line f h l e folds t = subst (λ (ls : List LogLine). FoldsTo plan header first ls h) (front_more lines i line l e) (goes_on line h folds t)
-
-pub on_ok_three : {T E A B C D : Type 0} (r : Result T E) → OnOk r A → OnOk r B → OnOk r C → (A → B → C → D) → OnOk r D
-on_ok_three (Ok x) a b c f = f a b c
-on_ok_three (Err e) a b c f = tt
 
 -- what an outbox that was empty has gained is due
 pub gained : (core after : Core) (old new : Gathered) (g : GivenByEvent) (outs : List LogLine) (decided : List TxnId) (ran : List Ran)

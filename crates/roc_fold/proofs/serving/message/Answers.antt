@@ -5,8 +5,9 @@ use Rattle.roc_msg.specs.declared.outbox.Ran.{Ran}
 use Rattle.roc_step.specs.Runs.{accesses_of}
 use Rattle.roc_log.specs.Sent.{outs_logged}
 use Rattle.roc_fold.specs.Fold.{GivenByEvent, serving}
-use Rattle.roc_fold.proofs.Taking.{on_ok_three, gained}
+use Rattle.roc_fold.proofs.Taking.{gained}
 use Rattle.roc_fold.proofs.serving.message.Goals as goal
+use Rattle.roc_judge.proofs.Timed.{on_ok_three}
 
 pub returns-in-Ok-clause-gives : goal.returns-in-Ok-clause-gives
 returns-in-Ok-clause-gives c =
