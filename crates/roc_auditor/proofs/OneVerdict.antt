@@ -28,7 +28,7 @@ use Rattle.roc_auditor.proofs.OneJudgement.{two_places, AnsweredOnce, judgements
 
 -- ---- one answer
 
-parts_of_has : {A : Type 0} (a : A) (xs : List A) → Has a xs → (front : List A) × (behind : List A) × (xs ≡ front ++ a ∷ behind)
+pub parts_of_has : {A : Type 0} (a : A) (xs : List A) → Has a xs → (front : List A) × (behind : List A) × (xs ≡ front ++ a ∷ behind)
 parts_of_has a [] h = absurd h
 parts_of_has a (x ∷ xs) (inl e) = ([], xs, ap (λ y. y ∷ xs) (sym e))
 parts_of_has a (x ∷ xs) (inr h) = let r = parts_of_has a xs h in (x ∷ r.0, r.1, ap (λ ys. x ∷ ys) r.2)
