@@ -1,10 +1,10 @@
 -- What servers decided at their own events is the serial order, and what coordinators told is the history
-use Rattle.std.proofs.Common.{◌≡◌, ℕ, ◌+◌, ◌<◌, Bool, true, false, List, [], ◌∷◌, ◌++◌, Some, Ok, length, refl, sym, ap, subst, ◌∙◌, ◌⊎◌, inl, inr, arith}
+use Rattle.std.proofs.Common.{◌≡◌, ℕ, ◌+◌, ◌<◌, Bool, true, false, List, [], ◌∷◌, ◌++◌, Ok, length, refl, sym, ap, subst, ◌∙◌, ◌⊎◌, inl, inr}
 use Rattle.std.proofs.lemmas.Bool.{eq-eqb}
 use Rattle.std.proofs.lemmas.List.{length-set}
 use Rattle.std.proofs.lemmas.List.FromFn.{length-map-range_with_len}
-use Rattle.std.proofs.lemmas.Option.{slice_get_within, slice_get_cases}
-use Rattle.std.specs.Prelude.{slice_get, if◌then◌else◌}
+use Rattle.std.proofs.lemmas.Option.{slice_get_within}
+use Rattle.std.specs.Prelude.{if◌then◌else◌}
 use Rattle.roc_sequence.specs.Lists.{Has}
 use Rattle.roc_sequence.specs.Places.{is_listed}
 use Rattle.roc_sequence.proofs.Members.{has_left, has_right, has_append, has_more, from_has_map}
@@ -66,9 +66,6 @@ noted_cases (t ∷ ts) order u h = elim (noted_cases ts (noted_one order t) u h)
 ]
 
 -- ---- as many nodes as there were
-
-pub within_there : {A : Type 0} (xs : List A) (i : ℕ) → i < length xs → (a : A) × (slice_get xs i ≡ Some a)
-within_there xs i h = elim (slice_get_cases xs i).1 [ inl k ↦ (k.0, k.2) | inr l ↦ absurd (omega (arith, h, l)) ]
 
 module _ (reads : (bytes : List ℕ) (header : Header) (msg : Msg) → Spells bytes header msg → datagram bytes ≡ Ok (pair header msg)) (plan : Plan) (coords : ℕ) where
   abbrev begun : World

@@ -33,11 +33,12 @@ use Rattle.roc_judge.specs.declared.folded.Folded.{Folded}
 use Rattle.roc_judge.specs.declared.judgement.Judgement.{Judgement}
 use Rattle.roc_judge.specs.declared.judgement.Judgement.TheVariants.{Yes}
 use Rattle.roc_judge.specs.Before as before
-use Rattle.roc_judge.specs.Before.{do_meet, GoesBefore, RunsFirst, RunsAlone, IsBeforeIn}
+use Rattle.roc_judge.specs.Before.{do_meet, GoesBefore}
 use Rattle.roc_judge.specs.Judged.{IsJudged, answers_told, one_missing, one_unsubmitted, a_circle, a_wrong_reply, explained}
 use Rattle.roc_law_audit.specs.InTheWorld.{ran_on, StillWaits, AreOfRun}
 use Rattle.roc_law_audit.proofs.Standing.{access_of, accesses_has, from_accesses_has, accesses_stand, from_accesses_stand, on_stands}
 use Rattle.roc_law_audit.proofs.Standing.{from_on_stands, from_on_has, on_has, stands_from_places, places_from_stands}
+use Rattle.roc_auditor.proofs.OneVerdict.{parts_of_has}
 
 -- what meets conflicts, and the other way round
 to_conflict : (a b : Access) (xs ys : List Access) → Has a xs → Has b ys → (is_cell a.cell b.cell && (a.writes || b.writes)) ≡ true → do_conflict xs ys ≡ true
@@ -50,14 +51,10 @@ from_conflict xs ys e =
     (p.0, p.1, q.0, q.1, q.2)
 
 -- one id, one call
-in_front : {A : Type 0} (x : A) (xs : List A) → Has x xs → (front : List A) × (behind : List A) × (xs ≡ front ++ x ∷ behind)
-in_front x [] h = elim h [ ]
-in_front {A} x (y ∷ ys) (inl e) = ([], ys, λ i. sym e i ∷ ys)
-in_front {A} x (y ∷ ys) (inr h) = let r = in_front x ys h in (y ∷ r.0, r.1, ap (λ (zs : List A). y ∷ zs) r.2)
 
 told_once : (h : List Entry) → IsToldOnce h → (t : TxnId) (proc other : ℕ) (args others : List ℤ) → Has (Submitted t proc args) h → Has (Submitted t other others) h → (other ≡ proc) × (others ≡ args)
 told_once h once t proc other args others a b =
-    let r = in_front (Submitted t proc args) h a in
+    let r = parts_of_has (Submitted t proc args) h a in
     let k = subst (λ (es : List Entry). Has (Submitted t other others) es) r.2 b in
     elim (has_append (Submitted t other others) r.0 (Submitted t proc args ∷ r.1) k) [
       | inl i ↦ absurd (once.each r.0 r.1 (Submitted t proc args) r.2 (other, others, i))
@@ -68,7 +65,7 @@ told_once h once t proc other args others a b =
         → (other ≡ proc) × (others ≡ args)
     later h once front behind e (inl i) = (let p : other ≡ proc = cc in p, let q : others ≡ args = cc in q)
     later h once front behind e (inr k) =
-        let r = in_front (Submitted t other others) behind k in
+        let r = parts_of_has (Submitted t other others) behind k in
         let whole : h ≡ (front ++ Submitted t proc args ∷ r.0) ++ Submitted t other others ∷ r.1 =
         e ∙ (ap (λ (es : List Entry). front ++ Submitted t proc args ∷ es) r.2 ∙ sym (append_assoc front (Submitted t proc args ∷ r.0) (Submitted t other others ∷ r.1))) in
         absurd (once.each (front ++ Submitted t proc args ∷ r.0) r.1 (Submitted t other others) whole

@@ -22,6 +22,7 @@ use Rattle.roc_law_protocol.proofs.Findings.{decided_there}
 use Rattle.roc_law_protocol.specs.Happens.{RanAt}
 use Rattle.roc_law_world.specs.World.{World, first_world}
 use Rattle.roc_law_world.specs.Run.{Stepped, IsRun, IsNodeOf}
+use Rattle.roc_law_world.proofs.Outcomes.{there as within_there}
 use Rattle.roc_log.specs.declared.line.LogLine.{LogLine}
 use Rattle.roc_log.specs.declared.line.Log.{Log}
 use Rattle.roc_judge.specs.declared.folded.Folded.{Folded}
@@ -33,7 +34,7 @@ use Rattle.roc_law_audit.specs.LogsOfRuns.{AreAllLogged, AreLogsOfRun, AreFoldsO
 use Rattle.roc_law_audit.proofs.Fronts.{taken_from}
 use Rattle.roc_law_audit.proofs.ServerLogs.{server_stands}
 use Rattle.roc_law_audit.proofs.CoordLogs.{IsToldIn, coord_stands}
-use Rattle.roc_law_audit.proofs.Decided.{within_there, servers_stay, coords_stay, order_decided, decided_order, ran_there, history_told}
+use Rattle.roc_law_audit.proofs.Decided.{servers_stay, coords_stay, order_decided, decided_order, ran_there, history_told}
 use Rattle.roc_law_audit.proofs.WaitsThere.{waits_there, are_waiting, still_there, there_still}
 
 -- nothing ran where no server is
