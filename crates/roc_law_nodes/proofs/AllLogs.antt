@@ -9,9 +9,9 @@ use Rattle.roc_base.specs.declared.node.Node.{Node}
 use Rattle.roc_base.specs.declared.node.Node.TheVariants.{Server, Coord}
 use Rattle.roc_law_world.specs.World.{World}
 use Rattle.roc_law_world.specs.Run.{Stepped, IsNodeOf}
+use Rattle.roc_law_world.proofs.Outcomes.{there as within_there}
 use Rattle.roc_log.specs.declared.line.Log.{Log}
 use Rattle.roc_node_serve.specs.ServerRun.{ServerNodeState, IsServerRun}
-use Rattle.roc_law_audit.proofs.Decided.{within_there}
 use Rattle.roc_law_nodes.specs.Interleaved.{AllSettings, AllNodes, Move, CoordPlace, node_at, setting_at, events_at, IsCoordAt}
 use Rattle.roc_law_nodes.specs.WorldOf.{IsWorldOf}
 use Rattle.roc_law_nodes.specs.Logs.{LogsInRun, by_server, by_coord, AreLogsOfNodes, IsLogAt, of_server, of_coord, AreLogsAt, AllCameInBytes}

@@ -13,11 +13,11 @@ use Rattle.roc_step.specs.State.{ServerState, ServerStep, Viewing}
 use Rattle.roc_step.specs.Step.{Handles}
 use Rattle.roc_law_protocol.specs.declared.event.Event.{Event}
 use Rattle.roc_law_protocol.specs.declared.event.Event.TheVariants.{Deliver}
+use Rattle.roc_law_protocol.proofs.Undelivered.{number_of}
 use Rattle.roc_law_world.specs.Fits.{FitsWorld}
 use Rattle.roc_law_world.specs.Happens.{Outcome, Happens, IsReceived}
 use Rattle.roc_law_world.specs.Run.{Stepped, IsRun, IsEventOf}
 use Rattle.roc_law_world.specs.World.{World, mark_delivered}
-use Rattle.roc_law_world.proofs.Comings.{stands_at}
 use Rattle.roc_node.specs.Judgement.{judged}
 use Rattle.roc_node.specs.declared.judging.Judged.{Judged}
 use Rattle.roc_node.specs.declared.judging.Judged.TheVariants.{Delivery, Skipped}
@@ -63,7 +63,7 @@ module _ (N : AllSettings) (fit : (steps : List Stepped) (w : World) → IsRun N
         go : (steps : List Stepped) (w : World) → IsWorldOf N moves all steps w → Steps msg
         go steps w is =
             let m : Envelope = record { from = from; to = Server shard; msg = msg } in
-            let p = stands_at all.sent m has in
+            let p = number_of all.sent m has in
             let o = comes w p.0 m (fit steps w is.run) (ap (λ l. slice_get l p.0) is.sent ∙ p.1) in
             taken_steps (mark_delivered w (suc p.0)) msg o.0
             (ap (λ l. slice_get l shard.0) is.servers ∙ map_get (λ (n : ServerNodeState). n.state) all.servers shard.0 node at)

@@ -1,5 +1,5 @@
 -- What a node logs over its own events: each event's line, and behind it what the event gives
-use Rattle.std.proofs.Common.{◌≡◌, ℕ, Bool, true, false, List, [], ◌∷◌, ◌++◌, Some, Ok, refl, sym, ap, subst, ◌∙◌, inl, inr, append-nil, append_assoc}
+use Rattle.std.proofs.Common.{◌≡◌, ℕ, Bool, true, false, List, [], ◌∷◌, ◌++◌, Ok, refl, sym, ap, subst, ◌∙◌, inl, inr, append-nil, append_assoc}
 use Rattle.std.proofs.lemmas.List.Elements.{filter-append}
 use Rattle.std.proofs.lemmas.Slice.Eq.{bytes_eq-Decides}
 use Rattle.std.specs.Prelude.{◌⊎◌, bytes_eq, if◌then◌else◌}
@@ -11,18 +11,14 @@ use Rattle.roc_plan.specs.Groups.{Plan}
 use Rattle.roc_wire.specs.declared.header.Header.{Header}
 use Rattle.roc_wire.specs.Laws.{Spells, IsRight, IsWrong}
 use Rattle.roc_wire.specs.Reading.{IsBytes, datagram, pair}
-use Rattle.roc_step.specs.Reads.{AnswersReads}
-use Rattle.roc_step.specs.Runs.{accesses_of}
-use Rattle.roc_step.specs.State.{ServerStep}
-use Rattle.roc_step.proofs.OneStep.{one_step, one_read_step}
-use Rattle.roc_log.specs.Sent.{outs_logged}
 use Rattle.roc_log.specs.declared.line.LogLine.{LogLine}
-use Rattle.roc_log.specs.declared.line.LogLine.TheVariants.{Submit, In, Tick, Out, Answer}
+use Rattle.roc_log.specs.declared.line.LogLine.TheVariants.{Submit, In, Tick}
 use Rattle.roc_node.specs.Judgement.{judged, with_tag}
 use Rattle.roc_node.specs.declared.judging.Judged.TheVariants.{Delivery, Skipped}
 use Rattle.roc_node.specs.declared.judging.Skip.TheVariants.{Tag, Fault}
 use Rattle.roc_node.specs.NodeEvent.{NodeEvent, took, silent}
-use Rattle.roc_fold.specs.Fold.{Core, serving, coordinating, GivenByEvent, GivesMessage, GivesTick, GivesSubmission, Gives}
+use Rattle.roc_fold.specs.Fold.{Core, GivenByEvent, Gives}
+use Rattle.roc_fold.proofs.OneFold.{one_event}
 use Rattle.roc_node_serve.specs.ServerRun.{is_stop}
 use Rattle.roc_law_audit.specs.LogsOfRuns.{IsStopLine, AreStops}
 use Rattle.roc_law_audit.proofs.Stopped.{idle, stop_line_gives}
@@ -52,36 +48,6 @@ pub logged_as : {plan : Plan} {header : Header} {first : Core} {events others : 
 logged_as {plan} {header} {first} {events} {others} {core} {next} {lines} {more} l e c m =
     subst (λ (x : List OwnEvent). AreLogged plan header first x next more) (sym e)
     (subst (λ (x : Core). AreLogged plan header first events x more) (sym c) (subst (λ (x : List LogLine). AreLogged plan header first events core x) (sym m) l))
-
--- ---- what an event gives is one
-
-module _ (plan : Plan) (header : Header) where
-  one_message : (core : Core) (msg : Msg) (g h : GivenByEvent) → GivesMessage plan header core msg g → GivesMessage plan header core msg h → g ≡ h
-  one_message (serving s v) msg g h a b =
-      let step : a.step ≡ b.step = one_step plan s msg a.step b.step a.handles b.handles in
-      let reads : a.reads ≡ b.reads = one_read_step plan v msg b.step a.reads b.reads (subst (λ (r : ServerStep). AnswersReads plan v msg r a.reads) step a.answers) b.answers in
-      a.is
-      ∙ (λ i. record { core = serving (step i).state (reads i).viewing; due = outs_logged header ((step i).sends ++ (reads i).sends); decided = (step i).decided; ran = accesses_of (step i).ran })
-      ∙ sym b.is
-  one_message (coordinating c) msg g h a b = a ∙ sym b
-
-  one_tick : (core : Core) (g h : GivenByEvent) → GivesTick plan header core g → GivesTick plan header core h → g ≡ h
-  one_tick (serving s v) g h a b = a ∙ sym b
-  one_tick (coordinating c) g h a b = a ∙ sym b
-
-  one_submission : (core : Core) (proc : ℕ) (args : _) (g h : GivenByEvent) → GivesSubmission plan header core proc args g → GivesSubmission plan header core proc args h → g ≡ h
-  one_submission (serving s v) proc args g h a b = elim a [ ]
-  one_submission (coordinating c) proc args g h (i, x, a) (j, y, b) = a ∙ sym b
-
-  pub one_given : (core : Core) (line : LogLine) (g h : GivenByEvent) → Gives plan header core line g → Gives plan header core line h → g ≡ h
-  one_given core (In bytes) g h (m, x, a) (n, y, b) =
-      let both : Some m ≡ Some n = sym x ∙ y in
-      let same : m ≡ n = cc in
-      one_message core n g h (subst (λ (k : Msg). GivesMessage plan header core k g) same a) b
-  one_given core Tick g h a b = one_tick core g h a b
-  one_given core (Submit proc args) g h a b = one_submission core proc args g h a b
-  one_given core (Out bytes) g h a b = elim a [ ]
-  one_given core (Answer id reply) g h a b = elim a [ ]
 
 -- ---- and between
 
@@ -131,7 +97,7 @@ module _ (reads : (bytes : List ℕ) (header : Header) (msg : Msg) → Spells by
   message_between events core lines l msg line g (bytes, s, is) gives true e =
       let stop : IsStopLine header line =
       record { bytes = bytes; by = s.header; tagged = s.tagged; spells = subst (λ (m : Msg). Spells bytes s.header m) (only_stop msg e) s.spells; is = is } in
-      let same : g ≡ idle core = one_given plan header core line g (idle core) gives (stop_line_gives reads plan header core line stop) in
+      let same : g ≡ idle core = one_event plan header core line g (idle core) gives (stop_line_gives reads plan header core line stop) in
       amid_as (one_stop l line stop) (ap (λ (x : List OwnEvent). for_core events ++ x) (of_message msg true e) ∙ append-nil (for_core events)) (ap (λ (x : GivenByEvent). x.core) same)
       (ap (λ (x : GivenByEvent). lines ++ line ∷ x.due) same)
   message_between events core lines l msg line g of gives false e =

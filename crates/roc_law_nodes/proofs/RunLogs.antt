@@ -33,11 +33,12 @@ use Rattle.roc_law_world.specs.Run.{Stepped, Transition, IsRun, at_beginning, st
 use Rattle.roc_log.specs.declared.line.LogLine.{LogLine}
 use Rattle.roc_log.specs.declared.line.LogLine.TheVariants.{Submit}
 use Rattle.roc_fold.specs.Fold.{Core, serving, coordinating, first_core, GivenByEvent, Gives}
+use Rattle.roc_fold.proofs.OneFold.{one_event}
 use Rattle.roc_law_audit.specs.LogsOfRuns.{node_of_event, is_step_of, outs_gained, answers_gained, LogsDelivery, LogsSubmission, LogsOwn, LogsWhere, LogsStep, AreLoggedFrom, AreStops, AreAllLogged}
 use Rattle.roc_law_audit.proofs.Effects.{IsWhole, given_by, Effect, nobody, a_server, a_coord, effect}
 use Rattle.roc_law_audit.proofs.Fronts.{behind, run_behind, logged_more, all_more}
 use Rattle.roc_law_nodes.specs.Own.{OwnEvent, delivered, ticked, requested, stopped, stopped_at, heard_by, own_step, own_events}
-use Rattle.roc_law_nodes.proofs.NodeLogs.{IsLineOf, AreLoggedAmid, none_amid, more_amid, IsNone, one_given}
+use Rattle.roc_law_nodes.proofs.NodeLogs.{IsLineOf, AreLoggedAmid, none_amid, more_amid, IsNone}
 use Rattle.roc_law_nodes.proofs.Stepping.{IsStepAt, IsStep, no_step, server_step, coord_step, stepping}
 use Rattle.roc_law_nodes.proofs.Owned.{gains_here, gains_elsewhere, gains_nothing}
 
@@ -196,7 +197,7 @@ module _ (reads : (bytes : List ℕ) (header : Header) (msg : Msg) → Spells by
         let all : line ∷ rest ≡ whole.line ∷ other.due = whole.lines in
         let first : whole.line ≡ line = cc in
         let behind : rest ≡ other.due = cc in
-        let one : other ≡ g = one_given plan header core line other g (subst (λ (l : LogLine). Gives plan header core l other) first whole.gives) gives in
+        let one : other ≡ g = one_event plan header core line other g (subst (λ (l : LogLine). Gives plan header core l other) first whole.gives) gives in
         (one, subst (λ (l : List LogLine). LogsOwn header w x.event x.outcome (line ∷ l)) (behind ∙ ap (λ (y : GivenByEvent). y.due) one) logs)
 
     does : is_step_of node (node_of_event w.sent x.event) ≡ true → own_step node w.sent x.event ≡ Some own → Does

@@ -1,6 +1,6 @@
 -- Each node of an interleaving has a run of its own loop, and the network has what it sent
 use Rattle.std.proofs.Common.{◌≡◌, ◌≢◌, ℕ, ◌==◌, Bool, true, false, cond, List, [], ◌∷◌, ◌++◌, Option, Some, None, map, refl, sym, ap, subst, ◌∙◌, append-nil, inl, inr, arith}
-use Rattle.std.proofs.lemmas.Bool.{eqb-true, eq-eqb}
+use Rattle.std.proofs.lemmas.Bool.{eq-eqb, ne_eqb}
 use Rattle.std.proofs.lemmas.List.{map-append}
 use Rattle.std.proofs.lemmas.List.Elements.{filter-append, filter_map-append}
 use Rattle.std.proofs.Math.Seq.{drop-append_seam}
@@ -39,13 +39,6 @@ second t = t.1
 abbrev pub to_shard : ℕ → Shard
 to_shard n = record { 0 = n }
 
-pub not_one : (a b : ℕ) → a ≢ b → (a == b) ≡ false
-not_one a b apart = go (a == b) refl
-  where
-    go : (t : Bool) → (a == b) ≡ t → t ≡ false
-    go true e = absurd (apart (eqb-true a b e))
-    go false e = refl
-
 pub takes_one : (node : Node) (moves : List Move) (move : Move) (event : NodeEvent) → taken_in node move ≡ Some event → events_at node (moves ++ move ∷ []) ≡ events_at node moves ++ event ∷ []
 takes_one node moves move event e = filter_map-append (taken_in node) moves (move ∷ []) ∙ ap (λ (p : Option NodeEvent). events_at node moves ++ cons_option p []) e
 
@@ -57,7 +50,7 @@ pub here : (n : ℕ) (event : NodeEvent) → (if n == n then Some event else Non
 here n event = ap (λ (b : Bool). if b then Some event else None) (eq-eqb n n refl)
 
 pub elsewhere : (n m : ℕ) (event : NodeEvent) → n ≢ m → (if n == m then Some event else None) ≡ None
-elsewhere n m event apart = ap (λ (b : Bool). if b then Some event else None) (not_one n m apart)
+elsewhere n m event apart = ap (λ (b : Bool). if b then Some event else None) (ne_eqb n m apart)
 
 -- ---- what a turn adds to the messages
 
@@ -192,7 +185,7 @@ module _ (N : AllSettings) where
           subst (λ (s : Shard). ServerRan turned served.sent s n) one (subst (λ (m : ServerNodeState). ServerRan turned served.sent shard m) (sym same.1) ran))
       | inr apart ↦
           server_rests moves (serves shard event) all.sent (Server shard) (gained node.messages next.messages) other n (elsewhere shard.0 other.0 event apart.0)
-          (not_one shard.0 other.0 apart.0) (was other n apart.1)
+          (ne_eqb shard.0 other.0 apart.0) (was other n apart.1)
     ]
 
     serves_coords : CoordsRan moves all → CoordsRan turned served
@@ -237,8 +230,8 @@ module _ (N : AllSettings) where
           (run, sent_more (Coord number) (eq-eqb number number refl) all.sent (node_at old).messages (node_at new).messages grows before.1, lines_then shows before.2) in
           subst (λ (n : ℕ). CoordRan longer moved.sent moved.told n place) same.0 (subst (λ (p : CoordPlace). CoordRan longer moved.sent moved.told number p) (sym same.1) ran))
       | inr apart ↦
-          coord_rests moves move all.sent (Coord number) (gained (node_at old).messages (node_at new).messages) all.told moved.told other place (none other apart.0) (not_one number other apart.0)
-          (lines_still other (not_one number other apart.0)) (was other place apart.1)
+          coord_rests moves move all.sent (Coord number) (gained (node_at old).messages (node_at new).messages) all.told moved.told other place (none other apart.0) (ne_eqb number other apart.0)
+          (lines_still other (ne_eqb number other apart.0)) (was other place apart.1)
     ]
 
   -- ---- all moves

@@ -26,7 +26,7 @@ use Rattle.roc_law_protocol.specs.declared.event.Seen.TheVariants as seen
 use Rattle.roc_law_protocol.specs.Happens.{answer_entries}
 use Rattle.roc_law_protocol.specs.World.{sent_by}
 use Rattle.roc_law_protocol.proofs.Changed.{get-front}
-use Rattle.roc_law_world.proofs.Comings.{stands_at}
+use Rattle.roc_law_protocol.proofs.Undelivered.{number_of}
 use Rattle.roc_law_world.specs.World.{World, mark_delivered, at_coord, at_coord_tick}
 use Rattle.roc_law_world.specs.Happens.{Outcome, undecided, Submits, served, coordinated, IsReceived, Happens}
 use Rattle.roc_law_world.specs.Run.{Stepped, IsRun, steps_on}
@@ -112,7 +112,7 @@ module _ (plan : Plan) (coords : ℕ) where
     numbered : (to : Node) (msg : Msg) → WasSentTo sent to msg → IsNumbered to msg
     numbered to msg (from, has) =
         let m : Envelope = record { from = from; to = to; msg = msg } in
-        let p = stands_at sent m has in
+        let p = number_of sent m has in
         let number : suc p.0 - 1 ≡ p.0 = omega arith in
         let there : slice_get r.world.sent (suc p.0 - 1) ≡ Some m = ap (λ l. slice_get l (suc p.0 - 1)) r.sent_are ∙ (ap (slice_get sent) number ∙ p.1) in
         record { from = from; at = p.0; there = there; comes = λ node more. ap (heard_by node) (get-front r.world.sent more (suc p.0 - 1) m there) }

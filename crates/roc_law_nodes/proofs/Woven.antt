@@ -1,6 +1,6 @@
 -- The runs of all nodes, interleaved, are a run of the world
-use Rattle.std.proofs.Common.{◌≡◌, ℕ, ◌==◌, Bool, true, false, List, [], ◌∷◌, ◌++◌, Option, Some, None, map, refl, sym, ap, subst, ◌∙◌, append-nil, inl, inr, arith}
-use Rattle.std.proofs.lemmas.Bool.{eq-eqb}
+use Rattle.std.proofs.Common.{◌≡◌, ℕ, ◌==◌, Bool, true, false, List, [], ◌∷◌, ◌++◌, Option, Some, None, refl, sym, ap, subst, ◌∙◌, append-nil, inl, inr, arith}
+use Rattle.std.proofs.lemmas.Bool.{eq-eqb, ne_eqb}
 use Rattle.std.proofs.lemmas.List.Elements.{filter-append, filter_map-append}
 use Rattle.std.specs.Prelude.{slice_get, slice_set, option_map, if◌then◌else◌}
 use Rattle.std.specs.List.{cons_option, range_with_len}
@@ -8,6 +8,7 @@ use Rattle.roc_base.specs.declared.node.Node.{Node}
 use Rattle.roc_base.specs.declared.node.Node.TheVariants.{Server, Coord}
 use Rattle.roc_base.specs.declared.node.Shard.{Shard}
 use Rattle.roc_program.specs.LookUps.{procedure_named}
+use Rattle.roc_program.proofs.Ranges.{map_map}
 use Rattle.roc_plan.specs.Groups.{Plan}
 use Rattle.roc_sched.specs.declared.line.Request.{Request}
 use Rattle.roc_law_protocol.proofs.Changed.{get-set_cases}
@@ -23,15 +24,11 @@ use Rattle.roc_law_nodes.specs.WorldOf.{owns_to, IsWorldOf}
 use Rattle.roc_law_nodes.proofs.CoordFolds.{owns_with_turn}
 use Rattle.roc_law_nodes.proofs.NodeMoves.{Mirrors, turn_served, receive_taken}
 use Rattle.roc_law_nodes.proofs.ServerFolds.{for_core, core_more}
-use Rattle.roc_law_nodes.proofs.SideBySide.{not_one, takes_one, takes_none, here, all_ran}
+use Rattle.roc_law_nodes.proofs.SideBySide.{takes_one, takes_none, here, all_ran}
 use Rattle.roc_law_nodes.proofs.SubmitMoves.{submissions_made}
 use Rattle.roc_law_nodes.proofs.WorldMoves.{with_own}
 
 -- ---- lists
-
-pub map_twice : {A B C : Type 0} (f : A → B) (g : B → C) (xs : List A) → map g (map f xs) ≡ map (λ x. g (f x)) xs
-map_twice f g [] = refl
-map_twice f g (x ∷ xs) = ap (λ l. g (f x) ∷ l) (map_twice f g xs)
 
 -- each request is for a core
 requests_kept : (plan : Plan) (requests : List Request) → for_core (own_requests plan requests) ≡ own_requests plan requests
@@ -80,9 +77,9 @@ module _ (N : AllSettings) where
           steps = [];
           world = first_world N.plan N.coords;
           run = at_beginning;
-          servers_are = sym (map_twice _ (λ n. n.state) (range_with_len 0 N.plan.program.shards));
-          viewing_are = sym (map_twice _ (λ n. n.viewing) (range_with_len 0 N.plan.program.shards));
-          coords_are = sym (map_twice _ _ (range_with_len 0 N.coords));
+          servers_are = sym (map_map (λ n. n.state) _ (range_with_len 0 N.plan.program.shards));
+          viewing_are = sym (map_map (λ n. n.viewing) _ (range_with_len 0 N.plan.program.shards));
+          coords_are = sym (map_map _ _ (range_with_len 0 N.coords));
           sent_are = refl;
           history_is = refl;
           owned_are = λ node. refl;
@@ -125,7 +122,7 @@ module _ (N : AllSettings) where
     moved_coords none is other place there = elim (get-set_cases all.coords number other old new place at there) [
       | inl same ↦ subst (λ (n : ℕ). CoordOwns (moves ++ move ∷ []) moved n place) same.0 (subst (λ (p : CoordPlace). CoordOwns (moves ++ move ∷ []) moved number p) (sym same.1) is)
       | inr apart ↦
-          (let else_ : (number == other) ≡ false = not_one number other apart.0 in
+          (let else_ : (number == other) ≡ false = ne_eqb number other apart.0 in
           own_elsewhere w.owned number other owns else_ ∙ (w.coords other place apart.1
           ∙ ap (λ (l : List NodeEvent). for_core (owns_to (setting_at N (Coord other)) other (N.requests other) l place)) (sym (takes_none (Coord other) moves move (none other else_)))))
     ]
