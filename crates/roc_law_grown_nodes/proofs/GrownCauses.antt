@@ -1,5 +1,5 @@
 -- A datagram of a message that was sent brings it as one of its file, where the tags of the two files differ
-use Rattle.std.proofs.Common.{◌≡◌, ◌≢◌, ℕ, ◌&&◌, ◌||◌, not, Bool, true, false, List, Ok, refl, sym, ap, subst, ◌∙◌}
+use Rattle.std.proofs.Common.{◌≡◌, ◌≢◌, ℕ, ◌&&◌, ◌||◌, not, Bool, true, false, List, Ok, refl, sym, subst, ◌∙◌}
 use Rattle.std.proofs.lemmas.Bool.{false≢true}
 use Rattle.std.proofs.lemmas.Slice.Eq.{bytes_eq-Decides}
 use Rattle.std.specs.Prelude.{bytes_eq, if◌then◌else◌}
@@ -18,7 +18,7 @@ use Rattle.roc_node.specs.NodeEvent.{took}
 use Rattle.roc_node.specs.declared.judging.Skip.TheVariants.{Tag}
 use Rattle.roc_node_serve.specs.ServerRun.{is_stop}
 use Rattle.roc_grown_node.specs.Setting.{GrownNodeSetting, own_tag}
-use Rattle.roc_grown_node.specs.Judgement.{is_past, has_grown_tag, is_delivered, where_delivered}
+use Rattle.roc_grown_node.specs.Judgement.{is_past, is_delivered, where_delivered}
 use Rattle.roc_grown_node.specs.Posting.{header_for}
 use Rattle.roc_grown_node.specs.declared.judging.GrownJudged.TheVariants.{Delivery, Skipped}
 use Rattle.roc_law_grown_nodes.specs.GrownInterleaved.{AllGrownSettings, grown_setting_at, WasSentAs, IsFiledSent, IsGrownJudgedSent, IsGrownCaused}

@@ -20,7 +20,7 @@ use Rattle.roc_epoch.specs.Files.{own_file, own_plan, is_file}
 use Rattle.roc_two_files.specs.Sealed.{Sealed, sealed_by}
 use Rattle.roc_grown.specs.declared.handled.GrownAnswer.{GrownAnswer}
 use Rattle.roc_grown.specs.declared.handled.GrownAnswer.TheVariants as answer
-use Rattle.roc_grown.specs.Server.{GrownServerState, GrownStep, GrownHandles, grown_server_tick}
+use Rattle.roc_grown.specs.Server.{GrownServerState, GrownHandles, grown_server_tick}
 use Rattle.roc_coord.specs.Step.{after_message}
 use Rattle.roc_grown.specs.Coord.{GrownCoordState, GrownCoordStep, unchanged, of_core, after_grown_message}
 use Rattle.roc_growth.specs.Happens.{answer_entries}

@@ -1,7 +1,7 @@
 -- Each node of an interleaving has a run of its own loop
-use Rattle.std.proofs.Common.{◌≡◌, ◌≢◌, ℕ, ◌==◌, Bool, false, List, [], ◌∷◌, ◌++◌, Option, Some, None, map, refl, sym, ap, subst, ◌∙◌, append-nil, inl, inr, arith}
+use Rattle.std.proofs.Common.{◌≡◌, ◌≢◌, ℕ, ◌==◌, false, List, [], ◌∷◌, ◌++◌, Some, None, map, refl, sym, ap, subst, ◌∙◌, append-nil, inl, inr, arith}
+use Rattle.std.proofs.lemmas.Bool.{ne_eqb}
 use Rattle.std.specs.Prelude.{slice_get}
-use Rattle.roc_base.specs.declared.node.Node.{Node}
 use Rattle.roc_base.specs.declared.node.Node.TheVariants.{Server, Coord}
 use Rattle.roc_base.specs.declared.node.Shard.{Shard}
 use Rattle.roc_report.specs.Line.{Line}
@@ -15,7 +15,7 @@ use Rattle.roc_grown_submit.specs.GrownCoordRun as submit
 use Rattle.roc_grown_submit.specs.GrownCoordRun.{GrownCoordNodeState, first_grown_coord_node_state, are_all_answered, grown_submitted_node, grown_submissions_of, grown_coord_took}
 use Rattle.roc_grown_submit.specs.GrownCoordRun.{grown_step_of_event, grown_reply_lines, IsGrownCoordRun}
 use Rattle.roc_law_nodes.specs.Interleaved.{Move, serves, submits, takes, gained, taken_in, events_at, lines_by}
-use Rattle.roc_law_nodes.proofs.SideBySide.{all_gained, takes_one, takes_none, here, elsewhere, not_one, to_shard, lines_more, lines_here, lines_elsewhere}
+use Rattle.roc_law_nodes.proofs.SideBySide.{all_gained, takes_one, takes_none, here, elsewhere, to_shard, lines_more, lines_here, lines_elsewhere}
 use Rattle.roc_law_grown_nodes.specs.GrownInterleaved.{AllGrownSettings, grown_setting_at, GrownCoordPlace, between, within, grown_node_at, AllGrownNodes, grown_server_moved, grown_coord_moved}
 use Rattle.roc_law_grown_nodes.specs.GrownInterleaved.{AreGrownInterleaved, none_moved, server_moves, coord_submits, coord_takes, IsGrownCoordAt}
 
@@ -122,7 +122,7 @@ module _ (N : AllGrownSettings) where
           (let ran : CoordRan longer moved.told number new = (run, lines_then shows (was number old at).1) in
           subst (λ (n : ℕ). CoordRan longer moved.told n place) same.0 (subst (λ (p : GrownCoordPlace). CoordRan longer moved.told number p) (sym same.1) ran))
       | inr apart ↦
-          coord_rests moves move all.told moved.told other place (none other apart.0) (lines_still other (not_one number other apart.0)) (was other place apart.1)
+          coord_rests moves move all.told moved.told other place (none other apart.0) (lines_still other (ne_eqb number other apart.0)) (was other place apart.1)
     ]
 
   -- ---- all moves

@@ -21,8 +21,8 @@ use Rattle.roc_growth.specs.declared.event.Seen.TheVariants as seen
 use Rattle.roc_growth.specs.World.{GrownWorld, mark_delivered, at_coord, at_coord_tick}
 use Rattle.roc_growth.specs.Happens.{Outcome, undecided, IsCallOf, Submits, served, coordinated, answer_entries, IsReceived, Happens}
 use Rattle.roc_growth.specs.Run.{Stepped, IsGrownRun, steps_on}
-use Rattle.roc_law_world.proofs.Comings.{stands_at}
 use Rattle.roc_law_grown_nodes.specs.GrownInterleaved.{WasSentAs}
+use Rattle.roc_law_protocol.proofs.Undelivered.{number_of}
 
 module _ (plan : Plan) (next : Next) where
   -- a run led to a world that has these
@@ -72,7 +72,7 @@ module _ (plan : Plan) (next : Next) where
     numbered : (to : Node) (file : File) (msg : Msg) → WasSentAs sent to file msg → IsNumbered to file msg
     numbered to file msg (from, has) =
         let m : Sealed = record { file = file; message = record { from = from; to = to; msg = msg } } in
-        let p = stands_at sent m has in
+        let p = number_of sent m has in
         let number : suc p.0 - 1 ≡ p.0 = omega arith in
         record { from = from; at = p.0; there = ap (λ l. slice_get l (suc p.0 - 1)) r.sent_are ∙ (ap (slice_get sent) number ∙ p.1) }
 

@@ -11,10 +11,9 @@ use Rattle.roc_base.specs.declared.node.Node.TheVariants.{Coord}
 use Rattle.roc_msg.specs.declared.outbox.Outgoing.{Outgoing}
 use Rattle.roc_program.specs.LookUps.{procedure_named, no_procedure}
 use Rattle.roc_program.specs.Program.{Procedure}
-use Rattle.roc_plan.specs.Groups.{Plan, procedure_of}
+use Rattle.roc_plan.specs.Groups.{Plan}
 use Rattle.roc_replay.specs.Readback.{entries_in, history_in}
 use Rattle.roc_sched.specs.declared.line.Request.{Request}
-use Rattle.roc_coord.specs.declared.handled.SubmitFault.{SubmitFault}
 use Rattle.roc_coord.specs.State.{CoordState}
 use Rattle.roc_coord.specs.Submit.{next_id, after_submit, Submission}
 use Rattle.roc_audit.specs.declared.entry.Entry.{Entry}
@@ -28,8 +27,9 @@ use Rattle.roc_two_files.specs.Sealed.{Sealed, sealed_by}
 use Rattle.roc_grown.specs.declared.handled.GrownFault.{GrownFault}
 use Rattle.roc_grown.specs.declared.handled.GrownFault.TheVariants.{Draining}
 use Rattle.roc_grown.specs.Server.{GrownServerState}
-use Rattle.roc_grown.specs.Coord.{GrownCoordState, GrownSubmission, DrainStep, is_drained, telling, drained_sends, tell_if_drained, after_drain, answered_so, submitted_to_core, after_grown_submit}
+use Rattle.roc_grown.specs.Coord.{GrownCoordState, GrownSubmission, DrainStep, is_drained, telling, drained_sends, tell_if_drained, after_drain, submitted_to_core, after_grown_submit}
 use Rattle.roc_growth.specs.Happens.{IsCallOf}
+use Rattle.roc_growth.proofs.Submitting.{answered_ok}
 use Rattle.roc_grown_node.specs.Setting.{GrownNodeSetting}
 use Rattle.roc_grown_submit.specs.GrownCoordRun.{GrownCoordNodeState, GrownSubmissions, none_grown_submitted, with_drain, is_first_answered, drained_first, grown_submit_lines, grown_submitted_call}
 use Rattle.roc_grown_submit.specs.GrownCoordRun.{grown_submitted, grown_accepts_call, grown_accepts, grown_submitted_all, submitted_first, of_later, submitted_later, grown_submissions_of}
@@ -53,10 +53,6 @@ accepted_by_core plan s proc args id e = go (after_submit plan s proc args) (any
     go r (busy known counted l m) f = absurd (cc)
     go r (taken known counted l m) f = (known, counted)
 
-answered_by_core : (a : Result TxnId SubmitFault) (id : TxnId) → answered_so a ≡ Ok id → a ≡ Ok id
-answered_by_core (Ok one) id e = cc
-answered_by_core (Err fault) id e = absurd (cc)
-
 module _ (plan : Plan) (next : Next) (grown : IsGrownFrom plan.program next.plan.program) where
   -- a call of a file's own is one of the last file's
   of_last : (switched : Bool) (proc : ℕ) (args : List ℤ) → IsCallOf (own_plan plan (Some next) switched) proc args → IsCallOf next.plan proc args
@@ -79,7 +75,7 @@ module _ (plan : Plan) (next : Next) (grown : IsGrownFrom plan.program next.plan
 
       go : (b : Bool) → (if◌then◌else◌ {A = GrownSubmission} b (record { answer = Err Draining; state = c; sends = [] }) (submitted_to_core c core)).answer ≡ Ok id → IsCallOf next.plan proc args
       go true f = absurd (cc)
-      go false f = of_last c.switched proc args (accepted_by_core (own_plan plan (Some next) c.switched) c.core proc args id (answered_by_core core.answer id f))
+      go false f = of_last c.switched proc args (accepted_by_core (own_plan plan (Some next) c.switched) c.core proc args id (answered_ok core.answer id f))
 
   -- neither goes over
   submits_in_file : (c : GrownCoordState) (proc : ℕ) (args : List ℤ) → (after_grown_submit plan (Some next) c proc args).state.switched ≡ c.switched

@@ -1,19 +1,16 @@
 -- All nodes that may go over, their turns in one order, are a run of the world of two files
-use Rattle.std.proofs.Common.{◌≡◌, ℕ, List, [], Some, map, refl, sym}
+use Rattle.std.proofs.Common.{List, [], refl, sym}
 use Rattle.std.specs.List.{range_with_len}
-use Rattle.roc_base.specs.declared.node.Node.TheVariants.{Coord}
 use Rattle.roc_epoch.specs.Grown.{IsGrownFrom}
 use Rattle.roc_growth.specs.World.{GrownWorld, first_grown_world}
 use Rattle.roc_growth.specs.Run.{Stepped, at_first}
-use Rattle.roc_grown_serve.specs.GrownRun.{first_grown_node}
-use Rattle.roc_grown_submit.specs.GrownCoordRun.{first_grown_coord_node_state}
 use Rattle.roc_law_nodes.specs.Interleaved.{Move}
-use Rattle.roc_law_nodes.proofs.Woven.{map_twice}
-use Rattle.roc_law_grown_nodes.specs.GrownInterleaved.{AllGrownSettings, between, within, grown_node_at, AllGrownNodes, first_grown_nodes, AreGrownInterleaved, none_moved, server_moves}
+use Rattle.roc_law_grown_nodes.specs.GrownInterleaved.{AllGrownSettings, within, grown_node_at, AllGrownNodes, first_grown_nodes, AreGrownInterleaved, none_moved, server_moves}
 use Rattle.roc_law_grown_nodes.specs.GrownInterleaved.{coord_submits, coord_takes}
 use Rattle.roc_law_grown_nodes.specs.GrownWorldOf.{IsGrownWorldOf}
 use Rattle.roc_law_grown_nodes.proofs.GrownNodeMoves.{Mirrors, turn_served, receive_taken}
 use Rattle.roc_law_grown_nodes.proofs.GrownSubmitMoves.{submissions_made}
+use Rattle.roc_program.proofs.Ranges.{map_map}
 
 module _ (N : AllGrownSettings) (grown : IsGrownFrom N.plan.program N.next.plan.program) where
   first_mirrors : Mirrors N (first_grown_nodes N)
@@ -22,8 +19,8 @@ module _ (N : AllGrownSettings) (grown : IsGrownFrom N.plan.program N.next.plan.
         steps = [];
         world = first_grown_world N.plan N.next.coords;
         run = at_first refl;
-        servers_are = sym (map_twice _ (λ n. n.state) (range_with_len 0 N.plan.program.shards));
-        coords_are = sym (map_twice _ (λ c. (grown_node_at c).state) (range_with_len 0 N.next.coords));
+        servers_are = sym (map_map (λ n. n.state) _ (range_with_len 0 N.plan.program.shards));
+        coords_are = sym (map_map (λ c. (grown_node_at c).state) _ (range_with_len 0 N.next.coords));
         sent_are = refl;
         history_is = refl;
       }

@@ -1,6 +1,5 @@
 -- The world of nodes that may go over to a grown workload, and whose turns are interleaved: docs/PROTOCOL.md, "Running nodes"
-use Rattle.std.specs.Prelude.{◌≡◌, List, ◌∷◌, Some, map}
-use Rattle.roc_epoch.specs.declared.next.Next.{Next}
+use Rattle.std.specs.Prelude.{◌≡◌, List, Some, map}
 use Rattle.roc_growth.specs.World.{GrownWorld}
 use Rattle.roc_growth.specs.Run.{Stepped, IsGrownRun}
 use Rattle.roc_replay.specs.Readback.{history_in}
