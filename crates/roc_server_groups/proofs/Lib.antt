@@ -8,3 +8,4 @@ mod Placed
 pub mod Restored
 pub mod SameGroups
 pub mod Stands
+pub mod Tried

@@ -2,3 +2,4 @@
 pub mod Keyed
 pub mod Looks
 pub mod Runs
+pub mod Tried

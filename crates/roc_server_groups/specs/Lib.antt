@@ -1,4 +1,5 @@
 pub mod Entered
+pub mod GroupsNow
 pub mod Groups
 pub mod Indexed
 pub mod Runs

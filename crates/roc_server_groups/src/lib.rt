@@ -9,6 +9,11 @@
 //! [`run_all`] runs exactly what the step runs of transactions (`take_all` of `roc_step`), and whether there is memory or not [`put_back`] brings the
 //! groups back to what they were. [`reserve_group`] and [`StartedGroups::reserve`] take the memory that [`add_group`] and [`StartedGroups::enter`] need.
 //! Whatever wants memory otherwise leaves the groups as they were.
+//!
+//! [`ServerGroups`] has the groups with their index, and has one step tried at a time: what is decided runs, or a group is to start, with room taken for
+//! it. Contracts see the groups before the step, those with what ran, and the group that starts (`specs/GroupsNow.antt`). [`ServerGroups::release`]
+//! keeps what was tried, with what is newly decided and what is forgotten, and [`ServerGroups::rollback`] gives it up. Neither takes memory, and the index
+//! stays right for the groups and what is decided.
 #![tactic(auto)]
 
 mod begun;
@@ -20,6 +25,7 @@ mod lent_groups;
 mod looks;
 mod ran;
 mod runs;
+mod server_groups;
 mod started_groups;
 
 pub use begun::{Begun, begin_group, is_immediate};
@@ -29,4 +35,5 @@ pub use indexed::{add_group, reserve_group, take_out};
 pub use looks::{Starting, edges_for, entries};
 pub use ran::{note_all, note_group};
 pub use runs::{Earlier, put_back, run_all};
+pub use server_groups::ServerGroups;
 pub use started_groups::StartedGroups;

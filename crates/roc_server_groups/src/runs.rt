@@ -44,6 +44,7 @@ pub fn run_all(
     ensures runs { OnOk result ((s : ServerState) → take_all plan.now (holding s rows.old.store started.old.groups) ids.now ≡ holding s rows.new.store started.new.groups) }
     ensures groups { OnOk result (AreSameGroups started.old.groups started.new.groups) }
     ensures restored { restored earlier.new.items started.new.groups ≡ restored earlier.old.items started.old.groups }
+    ensures spare { started.new.spare ≡ started.old.spare }
     ensures saved { rows.new.saved ≡ rows.old.saved }
 {
     for id in ids {
@@ -66,6 +67,7 @@ fn run_transaction(
     ensures runs { OnOk result ((s : ServerState) → run_groups plan.now (holding s rows.old.store started.old.groups) (buffered_here plan.now id started.old.groups) ≡ holding s rows.new.store started.new.groups) }
     ensures groups { OnOk result (AreSameGroups started.old.groups started.new.groups) }
     ensures restored { restored earlier.new.items started.new.groups ≡ restored earlier.old.items started.old.groups }
+    ensures spare { started.new.spare ≡ started.old.spare }
     ensures saved { rows.new.saved ≡ rows.old.saved }
 {
     let count = count_of_groups(plan, started, id);
@@ -91,6 +93,7 @@ fn run_number(
         → run_groups plan.now (holding s rows.old.store started.old.groups) (buffered plan.now (option_to_list (find_group id number started.old.groups))) ≡ holding s rows.new.store started.new.groups) }
     ensures groups { OnOk result (AreSameGroups started.old.groups started.new.groups) }
     ensures restored { restored earlier.new.items started.new.groups ≡ restored earlier.old.items started.old.groups }
+    ensures spare { started.new.spare ≡ started.old.spare }
     ensures saved { rows.new.saved ≡ rows.old.saved }
 {
     match place_of_group(started, id, number) {
@@ -112,6 +115,7 @@ fn run_if_buffered(
     requires fits { AreGroupsOf plan.now started.old.groups }
     ensures runs { OnOk result ((e : Group) → slice_get started.old.groups at ≡ Some e → RunsIfBuffered plan.now e at started.old.groups started.new.groups rows.old.store rows.new.store) }
     ensures restored { restored earlier.new.items started.new.groups ≡ restored earlier.old.items started.old.groups }
+    ensures spare { started.new.spare ≡ started.old.spare }
     ensures saved { rows.new.saved ≡ rows.old.saved }
 {
     let group = &started.as_slice()[at];
@@ -134,6 +138,7 @@ fn run_at(
     requires fits { AreGroupsOf plan.now started.old.groups }
     ensures runs { OnOk result ((e : Group) → slice_get started.old.groups at ≡ Some e → RunsAt plan.now e at started.old.groups started.new.groups rows.old.store rows.new.store) }
     ensures restored { restored earlier.new.items started.new.groups ≡ restored earlier.old.items started.old.groups }
+    ensures spare { started.new.spare ≡ started.old.spare }
     ensures saved { rows.new.saved ≡ rows.old.saved }
 {
     let given = given_by(alloc, plan, &started.as_slice()[at], rows)?;
@@ -150,6 +155,7 @@ fn keep_given(
     requires { at < length started.old.groups }
     ensures given { OnOk result ((e : Group) → slice_get started.old.groups at ≡ Some e → started.new.groups ≡ slice_set started.old.groups at (record e { later = Some given })) }
     ensures restored { restored earlier.new.items started.new.groups ≡ restored earlier.old.items started.old.groups }
+    ensures spare { started.new.spare ≡ started.old.spare }
 {
     earlier.reserve(1)?;
     let later = started.keep_later(at, Some(given));

@@ -111,6 +111,7 @@ impl StartedGroups {
         requires { at < length self.old.groups }
         ensures later { (e : Group) → slice_get self.old.groups at ≡ Some e → self.new.groups ≡ slice_set self.old.groups at (record e { later = later }) }
         ensures before { (e : Group) → slice_get self.old.groups at ≡ Some e → result ≡ e.later }
+        ensures spare { self.new.spare ≡ self.old.spare }
     {
         set_later(&mut self.groups, at, later)
     }
@@ -159,6 +160,7 @@ fn set_later(
     requires { at < index_map_len groups.old }
     ensures later { (e : Group) → slice_get (values groups.old) at ≡ Some e → values groups.new ≡ slice_set (values groups.old) at (record e { later = later }) }
     ensures before { (e : Group) → slice_get (values groups.old) at ≡ Some e → result ≡ e.later }
+    ensures spare { spare groups.new ≡ spare groups.old }
     ensures keys { keys groups.new ≡ keys groups.old }
     ensures keyed { map key_of (values groups.new) ≡ map key_of (values groups.old) }
 {

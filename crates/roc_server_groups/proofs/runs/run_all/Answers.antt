@@ -17,5 +17,6 @@ loop-id-preserved c =
           c.args.rows.now.store c.loop-id.rows.store c.run_transaction.new.rows.store
           (drop-cons ids i none within ∙ ap (λ k. get_or ids i none ∷ drop k ids) next) c.loop-id.invariant.takes c.in_ok-run_transaction.ensures.runs c.in_ok-run_transaction.ensures.groups;
       restored = c.run_transaction.ensures.restored ∙ c.loop-id.invariant.restored;
+      spare = c.run_transaction.ensures.spare ∙ c.loop-id.invariant.spare;
       saved = c.run_transaction.ensures.saved ∙ c.loop-id.invariant.saved;
     }

@@ -13,6 +13,7 @@ loop-number-preserved c =
           runs_more c.args.plan.now c.args.id c.count_of_groups-count.result c.loop-number.number c.args.started.now.groups c.loop-number.started.groups c.run_number.new.started.groups
           c.args.rows.now.store c.loop-number.rows.store c.run_number.new.rows.store (omega arith) c.loop-number.invariant.runs c.in_ok-run_number.ensures.runs c.in_ok-run_number.ensures.groups;
       restored = c.run_number.ensures.restored ∙ c.loop-number.invariant.restored;
+      spare = c.run_number.ensures.spare ∙ c.loop-number.invariant.spare;
       saved = c.run_number.ensures.saved ∙ c.loop-number.invariant.saved;
     }
 
