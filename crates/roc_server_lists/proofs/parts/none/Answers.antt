@@ -1,0 +1,6 @@
+use Rattle.roc_server_lists.proofs.NoLists.{nothing_sound}
+use Rattle.roc_server_lists.proofs.parts.none.Goals as goal
+
+pub returns-clause-sound : goal.returns-clause-sound
+returns-clause-sound c =
+    nothing_sound _ c.new.ensures.known c.new.ensures.links c.new.ensures.decided c.new-2.ensures.waiting c.new-2.ensures.fetches c.new-4.ensures

@@ -1,0 +1,21 @@
+use Rattle.std.proofs.Common.{◌≡◌, List, OnOk, subst}
+use Rattle.roc_step.specs.State.{ServerState}
+use Rattle.roc_step.specs.declared.started.StartedGroup.{StartedGroup}
+use Rattle.roc_server_groups.specs.GroupsNow.{others}
+use Rattle.roc_server_lists.specs.ListsNow.{lists_behind, lists_of, over_of, IsNoneLeft, IsSettledBy, IsTried, ListsNow}
+use Rattle.roc_server_lists.specs.Inner.Trials.{lists_now}
+use Rattle.roc_server_lists.proofs.Sound.{sound_of}
+use Rattle.roc_server_lists.proofs.server_lists.ServerLists.settle.Goals as goal
+
+pub returns-clause-ok : goal.returns-clause-ok
+returns-clause-ok c =
+    subst (λ (v : ListsNow). OnOk c.settle.result ((s : ServerState) → lists_of s ≡ v.kept → IsTried (IsSettledBy s v.decided c.args.id c.args.mark) (lists_now c.settle.new.parts c.settle.new.trial).tried)) c.self.view_is c.settle.ensures.ok
+
+pub returns-clause-left : goal.returns-clause-left
+returns-clause-left c =
+    let now : ListsNow = lists_now c.settle.new.parts c.settle.new.trial in
+    subst (λ (v : ListsNow). OnOk c.settle.result ((started : List StartedGroup) → IsNoneLeft started v.kept.lists → IsNoneLeft (others (over_of now.tried) started) (lists_behind now).lists))
+    c.self.view_is c.settle.ensures.left
+
+pub returns-clause-sound : goal.returns-clause-sound
+returns-clause-sound c = sound_of c.settle.new.parts c.settle.new.trial c.settle.ensures.held

@@ -1,0 +1,2 @@
+pub mod ListsNow
+pub mod Inner
