@@ -6,14 +6,13 @@ use Rattle.roc_msg.specs.declared.msg.Msg.{Msg}
 use Rattle.roc_msg.specs.Outbox.{Collected, HasRoomFor, HoldsAlso, HoldsSame}
 use Rattle.roc_plan.specs.Groups.{Plan}
 use Rattle.roc_server.specs.declared.ahead.Ahead.{Ahead}
-use Rattle.roc_server.specs.declared.server_data.ServerData.{ServerData}
+use Rattle.roc_server.specs.declared.parts.ServerParts.{ServerParts}
 use Rattle.roc_server_reads.specs.declared.views.Views.{Views}
 use Rattle.roc_server.specs.Ahead.{HasRoom, HasRoomToTake, IsMadeFor, IsReady, ServingFits}
 use Rattle.roc_server.specs.Inner.AtOnce.{at_once}
-use Rattle.roc_server.specs.Inner.Held.{kept_before, made_ahead, serving, CanCount, IsHeld, IsServed}
+use Rattle.roc_server.specs.Inner.Held.{made_ahead, serving, CanCount, IsHeld, IsServed, IsTriedFor}
 use Rattle.roc_server_reads.specs.Views.{viewing_of, viewing_then}
-use Rattle.roc_server.specs.Inner.Planned.{after}
-use Rattle.roc_server.specs.Inner.ServerData.{state_of, IsConsistent}
+use Rattle.roc_server.specs.Inner.Parts.{state_behind, state_of, IsIdle, IsSound}
 use Rattle.roc_server.specs.State.{MadeAhead, Serving}
 use Rattle.roc_step.specs.declared.handled.Handled.{Handled}
 use Rattle.roc_step.specs.Fits.{AreGroupsOf, AreReadsOf}
@@ -26,12 +25,9 @@ use Rattle.roc_server.proofs.MadeSteps.{groups_from, idle_fits, reads_from, serv
 
 -- ---- nothing is made ahead
 
-module _ (shard : Shard) (k : ServerData) (x : Views) (ahead : Option Ahead) (none : ahead ≡ None) where
-  pub idle_state : (serving shard k x ahead).state ≡ state_of shard k
-  idle_state = ap (λ a. state_of shard (kept_before k a)) none
-
-  pub idle_held : IsConsistent k → IsHeld k ahead
-  idle_held sound = subst (IsHeld k) (sym none) sound
+module _ (shard : Shard) (k : ServerParts) (x : Views) (ahead : Option Ahead) (none : ahead ≡ None) where
+  pub idle_held : IsSound k → IsIdle k → IsHeld k ahead
+  idle_held sound idle = record { sound = sound; tried = subst (IsTriedFor k) (sym none) idle }
 
   pub idle_count : CanCount x ahead
   idle_count = subst (CanCount x) (sym none) tt
@@ -40,13 +36,13 @@ module _ (shard : Shard) (k : ServerData) (x : Views) (ahead : Option Ahead) (no
   idle_ahead = ap (λ a. (serving shard k x a).ahead) none
 
 -- what was made ahead is given up, and the server is of the plan as before
-pub let_go_fits : (plan : Plan) (shard : Shard) (k : ServerData) (x : Views) (ahead : Option Ahead) (s : ServerState) → ahead ≡ None → state_of shard k ≡ s → AreGroupsOf plan s.started → AreReadsOf plan x.reads.items → ServingFits plan (serving shard k x ahead)
+pub let_go_fits : (plan : Plan) (shard : Shard) (k : ServerParts) (x : Views) (ahead : Option Ahead) (s : ServerState) → ahead ≡ None → state_of shard k ≡ s → AreGroupsOf plan s.started → AreReadsOf plan x.reads.items → ServingFits plan (serving shard k x ahead)
 let_go_fits plan shard k x ahead s none same groups reads = idle_fits plan shard k x ahead none (groups_from plan (state_of shard k) s same groups) reads
 
 -- ---- it is given out
 
-module _ (plan : Plan) (shard : Shard) (k new : ServerData) (x y : Views) (ahead : Option Ahead) (a : Ahead) (is : Some a ≡ ahead) (answer : Handled) (old sent : Collected) (answers : a.outcome.answer ≡ answer)
-    (reached : (h : Shard) → state_of h new ≡ after h k a.outcome.change) (views : viewing_of y ≡ viewing_then (viewing_of x) a.outcome.answer a.outcome.sends.ran a.outcome.stays) (fits : ServingFits plan (serving shard k x ahead)) where
+module _ (plan : Plan) (shard : Shard) (k new : ServerParts) (x y : Views) (ahead : Option Ahead) (a : Ahead) (is : Some a ≡ ahead) (answer : Handled) (old sent : Collected) (answers : a.outcome.answer ≡ answer)
+    (reached : (h : Shard) → state_of h new ≡ state_behind h k) (views : viewing_of y ≡ viewing_then (viewing_of x) a.outcome.answer a.outcome.sends.ran a.outcome.stays) (fits : ServingFits plan (serving shard k x ahead)) where
   abbrev made : MadeAhead
   made = made_ahead shard k x a
 
@@ -73,13 +69,13 @@ module _ (plan : Plan) (shard : Shard) (k new : ServerData) (x y : Views) (ahead
       idle_fits plan shard new y later none (groups_from plan (state_of shard new) made.state (reached shard) made_fits.groups) (reads_from plan (viewing_of y) made.viewing views made_fits.views_fit)
 
 -- nothing was made ahead: the message was of a kind that no server takes
-pub given_at_once : (plan : Plan) (shard : Shard) (k : ServerData) (x : Views) (ahead : Option Ahead) (none : None ≡ ahead) (held : IsHeld k ahead) (msg : Msg) (out : Collected) (answer : Handled)
+pub given_at_once : (plan : Plan) (shard : Shard) (k : ServerParts) (x : Views) (ahead : Option Ahead) (none : None ≡ ahead) (held : IsHeld k ahead) (msg : Msg) (out : Collected) (answer : Handled)
     → ((s : ServerState) → (at_once s).answer ≡ answer) → IsReady (serving shard k x ahead) out msg
     → IsServed plan (serving shard k x ahead).state (viewing_of x) msg answer (state_of shard k) (viewing_of x) out out
 given_at_once plan shard k x ahead none held msg out answer answers ready =
     subst (λ o. IsServed plan (serving shard k x o).state (viewing_of x) msg answer (state_of shard k) (viewing_of x) out out) none
     (elim (subst (λ o. IsReady (serving shard k x o) out msg) (sym none) ready) [
-      | inl at ↦ served_at_once plan shard k (subst (IsHeld k) (sym none) held) msg at.0 (viewing_of x) out answer (answers (state_of shard k))
+      | inl at ↦ served_at_once plan (state_of shard k) k.lists.decided held.sound.lists.decided msg at.0 (viewing_of x) out answer (answers (state_of shard k))
       | inr all ↦ absurd (none-some all.made all.is)
     ])
 
@@ -122,6 +118,6 @@ pub room_when_ready : (v : Serving) (outbox : Collected) (msg : Msg) → IsReady
 room_when_ready v outbox msg ready = elim ready [ inl none ↦ inl none.0 | inr all ↦ inr all ]
 
 -- in code's terms
-pub room_of_ahead : (shard : Shard) (k : ServerData) (x : Views) (ahead : Option Ahead) (outbox : Collected) → HasRoomToTake (serving shard k x ahead) outbox → IfSome ahead (λ made. HasRoomFor outbox made.outcome.sends)
+pub room_of_ahead : (shard : Shard) (k : ServerParts) (x : Views) (ahead : Option Ahead) (outbox : Collected) → HasRoomToTake (serving shard k x ahead) outbox → IfSome ahead (λ made. HasRoomFor outbox made.outcome.sends)
 room_of_ahead shard k x None outbox h = tt
 room_of_ahead shard k x (Some a) outbox h = h

@@ -13,30 +13,24 @@ use Rattle.roc_server.specs.declared.ahead.Ahead.{Ahead}
 use Rattle.roc_server.specs.declared.ahead.Outcome.{Outcome}
 use Rattle.roc_step.specs.declared.handled.Handled.{Handled}
 use Rattle.roc_step.specs.declared.kept_read.KeptRead.{KeptRead}
-use Rattle.roc_server.specs.declared.server_data.ServerData.{ServerData}
+use Rattle.roc_server.specs.declared.parts.ServerParts.{ServerParts}
 use Rattle.roc_server_reads.specs.declared.views.Views.{Views}
 use Rattle.roc_server.specs.Ahead.{needs_room, HasAllMade, HasRoom, IsMadeFor, ServingFits}
 use Rattle.roc_step.specs.Fits.{AreGroupsOf, AreReadsOf}
-use Rattle.roc_server.specs.declared.planned.Change.{Change}
-use Rattle.roc_server.specs.declared.planned.Change.TheVariants.{Nothing, Asker, Group, Lists, Marks, Settled}
-use Rattle.roc_server.specs.declared.planned.Planned.{Planned}
 use Rattle.roc_server.specs.Inner.Answering.{read_step, PlansReads}
-use Rattle.roc_server.specs.Inner.Held.{kept_before, made_ahead, made_of, serving, IsHeld, IsServed}
+use Rattle.roc_server.specs.Inner.Held.{made_ahead, made_of, serving, IsServed}
 use Rattle.roc_server_reads.specs.Views.{reads_then, viewing_of, viewing_then}
-use Rattle.roc_server.specs.Inner.Planned.{after, before, rolled, IsPlanned}
-use Rattle.roc_server.specs.Inner.ServerData.{IsConsistent}
 use Rattle.roc_step.specs.Reads.{is_taken, reads_behind, with_accesses, AnswersReads, ReadStep}
 use Rattle.roc_step.specs.Runs.{accesses_of}
 use Rattle.roc_server.specs.State.{MadeAhead}
 use Rattle.roc_step.specs.State.{ServerState, ServerStep, Viewing}
 use Rattle.roc_step.specs.Step.{Handles}
 use Rattle.roc_step.specs.New.{AreDecided}
-use Rattle.roc_server.proofs.HeldUp.{decided_after}
+use Rattle.roc_server.specs.Inner.Parts.{state_behind, IsSound}
 use Rattle.roc_server.proofs.MessageSteps.{IsStepFor}
-use Rattle.roc_server.proofs.Undone.{cells_aside}
 
 -- where nothing is ahead, the groups and the reads are all that has to be of the plan
-pub idle_fits : (plan : Plan) (shard : Shard) (k : ServerData) (v : Views) (ahead : Option Ahead) → ahead ≡ None → AreGroupsOf plan k.started.groups → AreReadsOf plan v.reads.items → ServingFits plan (serving shard k v ahead)
+pub idle_fits : (plan : Plan) (shard : Shard) (k : ServerParts) (v : Views) (ahead : Option Ahead) → ahead ≡ None → AreGroupsOf plan k.groups.kept → AreReadsOf plan v.reads.items → ServingFits plan (serving shard k v ahead)
 idle_fits plan shard k v ahead none fits reads = subst (λ a. ServingFits plan (serving shard k v a)) (sym none) (fits, reads, tt)
 
 -- what was made for a message is the step, where it is what is answered, kept and sent
@@ -65,7 +59,7 @@ pub reads_from : (plan : Plan) (v w : Viewing) → v ≡ w → AreReadsOf plan w
 reads_from plan v w is fits = subst (λ (u : Viewing). AreReadsOf plan u.reads) (sym is) fits
 
 -- what it is answered
-pub made_answer : (plan : Plan) (shard : Shard) (k : ServerData) (x : Views) (ahead : Option Ahead) (s : ServerState) (v : Viewing) (msg : Msg) (answer : Handled)
+pub made_answer : (plan : Plan) (shard : Shard) (k : ServerParts) (x : Views) (ahead : Option Ahead) (s : ServerState) (v : Viewing) (msg : Msg) (answer : Handled)
     → IsSome ahead × IfSome ahead (λ made. made.msg.value ≡ msg)
     → IfSome (option_map (made_ahead shard k x) ahead) (IsMadeFor plan s v)
     → IfSome ahead (λ made. made.outcome.answer ≡ answer)
@@ -74,7 +68,7 @@ made_answer plan shard k x None s v msg answer (some, same) fits told = absurd (
 made_answer plan shard k x (Some a) s v msg answer (some, same) fits told = (fits.step, subst (λ m. Handles plan s m fits.step) same fits.handles, fits.answers ∙ told)
 
 -- where the room is there and the kind needs it, it was made for this message
-pub room_is : (shard : Shard) (k : ServerData) (x : Views) (ahead : Option Ahead) (outbox : Collected) (msg : Msg) → needs_room msg ≡ true → HasRoom (serving shard k x ahead) outbox msg
+pub room_is : (shard : Shard) (k : ServerParts) (x : Views) (ahead : Option Ahead) (outbox : Collected) (msg : Msg) → needs_room msg ≡ true → HasRoom (serving shard k x ahead) outbox msg
     → IfSome ahead (λ made. (made.msg.value ≡ msg) × HasRoomFor outbox made.outcome.sends) × IsSome ahead
 room_is shard k x None outbox msg kind h = elim h [ inl none ↦ absurd (false≢true (sym none ∙ kind)) | inr all ↦ absurd (none-some all.made all.is) ]
 room_is shard k x (Some a) outbox msg kind h =
@@ -100,7 +94,7 @@ room_for None msg outbox h = tt
 room_for (Some a) msg outbox h = h.1
 
 -- the room that was taken
-pub has_room : (shard : Shard) (k : ServerData) (x : Views) (ahead : Option Ahead) (outbox : Collected) (msg : Msg) → IsSome ahead × IfSome ahead (λ made. made.msg.value ≡ msg) → IfSome ahead (λ made. HasRoomFor outbox made.outcome.sends)
+pub has_room : (shard : Shard) (k : ServerParts) (x : Views) (ahead : Option Ahead) (outbox : Collected) (msg : Msg) → IsSome ahead × IfSome ahead (λ made. made.msg.value ≡ msg) → IfSome ahead (λ made. HasRoomFor outbox made.outcome.sends)
     → HasAllMade (serving shard k x ahead) outbox msg
 has_room shard k x None outbox msg (some, same) room = absurd (false≢true some)
 has_room shard k x (Some a) outbox msg (some, same) room = record { made = made_ahead shard k x a; is = refl; of = same; room = room }
@@ -113,29 +107,30 @@ then_fit plan v answer ran stays before after = go (is_taken answer)
     go true = after
     go false = before
 
--- ---- what was planned, made ahead or done
+-- ---- what was tried is made for its message
 
-module _ (plan : Plan) (shard : Shard) (mid : ServerData) (msg : Msg) (p : Planned) (s : ServerState) (v : Viewing) (none core sends : Collected) (step : IsStepFor plan s msg (after shard mid p.change) none core p.answer)
-    (no_messages : none.messages ≡ []) (none_decided : none.decided ≡ []) (none_ran : none.ran ≡ []) (fits : AreGroupsOf plan (after shard mid p.change).started) (planned : IsPlanned mid p.change) where
+module _ (plan : Plan) (shard : Shard) (mid : ServerParts) (sound : IsSound mid) (msg : Msg) (answer : Handled) (s : ServerState) (v : Viewing) (none core sends : Collected)
+    (step : IsStepFor plan s msg (state_behind shard mid) none core answer)
+    (no_messages : none.messages ≡ []) (none_decided : none.decided ≡ []) (none_ran : none.ran ≡ []) (fits : AreGroupsOf plan (state_behind shard mid).started) where
   abbrev r : ServerStep
   r = step.0
 
   ran : core.ran ≡ accesses_of r.ran
   ran = step.2.ran ∙ ap (λ accesses. accesses ++ accesses_of r.ran) none_ran
 
-  -- with what comes of it for reads, it is made for the message
-  pub made_for : (x : Views) (o : Outcome) → o ≡ record { answer = p.answer; change = p.change; sends = sends; stays = o.stays } → viewing_of x ≡ v → PlansReads plan shard mid p.change v msg p.answer core sends o.stays
-      → AreReadsOf plan (viewing_then v p.answer core.ran o.stays).reads → IsMadeFor plan s v (made_of shard mid x msg o)
+  -- with what comes of it for reads
+  pub made_for : (x : Views) (o : Outcome) → o ≡ record { answer = answer; sends = sends; stays = o.stays } → viewing_of x ≡ v → PlansReads plan (state_behind shard mid) v msg answer core sends o.stays
+      → AreReadsOf plan (viewing_then v answer core.ran o.stays).reads → IsMadeFor plan s v (made_of shard mid x msg o)
   made_for x o is same reads reads_fit =
-      let ids = (decided_after shard mid p.change planned).0 in
-      let are = (decided_after shard mid p.change planned).1 in
+      let ids = sound.lists.later in
+      let are = sound.lists.are_later in
       let q : ReadStep = reads_behind plan ids v msg r in
-      let planned_q : ReadStep = read_step plan ids v msg p.answer (after shard mid p.change) core.ran in
+      let planned_q : ReadStep = read_step plan ids v msg answer (state_behind shard mid) core.ran in
       let q_is : q ≡ planned_q = λ i. read_step plan ids v msg (step.2.answers i) (step.2.keeps i) (sym ran i) in
       let told = reads.step ids are in
       let P : Outcome → Type 0 = λ o. IsMadeFor plan s v (made_of shard mid x msg o) in
-      let then_is : viewing_then v p.answer core.ran o.stays ≡ viewing_then (viewing_of x) p.answer sends.ran o.stays =
-      λ i. viewing_then (sym same i) p.answer (sym told.1.2 i) o.stays in
+      let then_is : viewing_then v answer core.ran o.stays ≡ viewing_then (viewing_of x) answer sends.ran o.stays =
+      λ i. viewing_then (sym same i) answer (sym told.1.2 i) o.stays in
       subst P (sym is)
       (record {
         step = r;
@@ -149,36 +144,22 @@ module _ (plan : Plan) (shard : Shard) (mid : ServerData) (msg : Msg) (p : Plann
         decides = told.1.1 ∙ step.2.decides ∙ ap (λ ids. ids ++ r.decided) none_decided;
         ran = told.1.2 ∙ ran;
         groups = fits;
-        views_fit = reads_from plan (viewing_then (viewing_of x) p.answer sends.ran o.stays) (viewing_then v p.answer core.ran o.stays) (sym then_is) reads_fit;
+        views_fit = reads_from plan (viewing_then (viewing_of x) answer sends.ran o.stays) (viewing_then v answer core.ran o.stays) (sym then_is) reads_fit;
       })
 
--- ---- what is kept before what was made ahead is right
-
-pub planned_sound : (k : ServerData) (change : Change) → IsPlanned k change → IsConsistent (before k change)
-planned_sound k Nothing p = p
-planned_sound k (Asker asker) p = p.0
-planned_sound k (Group e) p = cells_aside k (rolled k.rows) p.sound
-planned_sound k (Lists l) p = p.sound
-planned_sound k (Marks h) p = p.sound
-planned_sound k (Settled s) p = p.sound
-
-pub held_sound : (k : ServerData) (ahead : Option Ahead) → IsHeld k ahead → IsConsistent (kept_before k ahead)
-held_sound k None h = h
-held_sound k (Some made) h = planned_sound k made.outcome.change h
-
 -- what was made is for the message
-made_parts : (plan : Plan) (shard : Shard) (k : ServerData) (x : Views) (ahead : Option Ahead) (s : ServerState) (v : Viewing) (msg : Msg) → IsSome ahead
+made_parts : (plan : Plan) (shard : Shard) (k : ServerParts) (x : Views) (ahead : Option Ahead) (s : ServerState) (v : Viewing) (msg : Msg) → IsSome ahead
     → IfSome (option_map (made_ahead shard k x) ahead) (λ made. (made.msg ≡ msg) × IsMadeFor plan s v made)
     → IfSome ahead (λ made. made.msg.value ≡ msg) × IfSome (option_map (made_ahead shard k x) ahead) (IsMadeFor plan s v)
 made_parts plan shard k x None s v msg some h = (tt, tt)
 made_parts plan shard k x (Some a) s v msg some h = h
 
-pub made_msg : {A E : Type 0} (done : Result A E) (plan : Plan) (shard : Shard) (k : ServerData) (x : Views) (ahead : Option Ahead) (s : ServerState) (v : Viewing) (msg : Msg)
+pub made_msg : {A E : Type 0} (done : Result A E) (plan : Plan) (shard : Shard) (k : ServerParts) (x : Views) (ahead : Option Ahead) (s : ServerState) (v : Viewing) (msg : Msg)
     → OnOk done (IfSome (option_map (made_ahead shard k x) ahead) (λ made. (made.msg ≡ msg) × IsMadeFor plan s v made)) → OnOk done (IsSome ahead) → OnOk done (IsSome ahead × IfSome ahead (λ made. made.msg.value ≡ msg))
 made_msg (Ok a) plan shard k x ahead s v msg made some = (some, (made_parts plan shard k x ahead s v msg some made).0)
 made_msg (Err e) plan shard k x ahead s v msg made some = tt
 
-pub made_once : {A E : Type 0} (done : Result A E) (plan : Plan) (shard : Shard) (k : ServerData) (x : Views) (ahead : Option Ahead) (s t : ServerState) (v : Viewing) (msg : Msg)
+pub made_once : {A E : Type 0} (done : Result A E) (plan : Plan) (shard : Shard) (k : ServerParts) (x : Views) (ahead : Option Ahead) (s t : ServerState) (v : Viewing) (msg : Msg)
     → OnOk done (IfSome (option_map (made_ahead shard k x) ahead) (λ made. (made.msg ≡ msg) × IsMadeFor plan s v made)) → OnOk done (IsSome ahead) → OnErr done (ahead ≡ None)
     → (serving shard k x ahead).state ≡ s → s ≡ t → viewing_of x ≡ v → AreGroupsOf plan t.started → AreReadsOf plan v.reads → ServingFits plan (serving shard k x ahead)
 made_once (Ok a) plan shard k x ahead s t v msg made some none is same views fits reads = (

@@ -1,14 +1,12 @@
-//! What was planned of a message, and what a server made ahead for one.
-use crate::planned::Change;
+//! What a server made ahead for a message.
 use crate::{Handled, KeptRead};
 use roc_msg::{Msg, Outbox};
 use std::rc::Rc;
 
-// What is answered, what is to change, what is sent, and the reads that stay, where others stay than are kept.
+// What is answered, what is sent, and the reads that stay, where others stay than are kept. What is to change is tried in the server's parts.
 #[derive(Drop)]
 pub(crate) struct Outcome {
     pub answer: Handled,
-    pub change: Change,
     pub sends: Outbox,
     pub stays: Option<Vec<KeptRead>>,
 }

@@ -6,21 +6,18 @@ ghost use Rattle.roc_msg.specs.Outbox.{HasRoomFor, HoldsAlso, HoldsSame};
 ghost use Rattle.roc_server.specs.Ahead.{needs_room, HasAllMade, HasRoom, IsMadeFor, IsReady, ServingFits};
 ghost use Rattle.roc_step.specs.Fits.{AreGroupsOf, AreReadsOf};
 ghost use Rattle.roc_server.specs.Inner.AtOnce.{at_once};
-ghost use Rattle.roc_server.specs.Inner.Held.{kept_before, made_of, serving, CanCount, IsHeld, IsServed};
+ghost use Rattle.roc_server.specs.Inner.Held.{made_of, serving, CanCount, IsHeld, IsServed};
 ghost use Rattle.roc_server_reads.specs.Views.{viewing_of, viewing_then, HasRoomToCount};
 ghost use Rattle.roc_plan.specs.Groups.{Plan as Groups};
-ghost use Rattle.roc_server.specs.Inner.Planned.{after, IsPlanned, IsPlannedFrom};
-ghost use Rattle.roc_server.specs.Inner.ServerData.{state_of, IsConsistent, IsSame};
+ghost use Rattle.roc_server.specs.Inner.Parts.{state_behind, state_of, CanRelease, IsIdle, IsSound};
 ghost use Rattle.roc_step.specs.State.{ServerState, ServerStep};
 ghost use Rattle.roc_step.specs.Step.{Handles};
 
 use crate::Handled;
 use crate::ahead::{Ahead, Outcome};
-use crate::changes::{commit, undo};
-use crate::planned::Planned;
-use crate::planning::prepare_message;
-use crate::reads::prepare_reads;
-use crate::server_data::ServerData;
+use crate::parts::{ServerParts, release, roll_back};
+use crate::reads::answer_reads;
+use crate::trying::try_message;
 use roc_base::{NoMemory, Shard};
 use roc_msg::{Msg, Outbox, Reason};
 use roc_plan::Plan;
@@ -34,34 +31,34 @@ pub(crate) fn ready(
     alloc: Global,
     plan: &Plan,
     shard: Shard,
-    kept: &mut ServerData,
+    parts: &mut ServerParts,
     views: &mut Views,
     ahead: &mut Option<Ahead>,
     msg: &Msg,
     outbox: &mut Outbox,
 ) -> Result<Handled, NoMemory>
-    requires fits { ServingFits plan.now (serving shard kept.old views.old ahead.old) }
-    requires held { IsHeld kept.old ahead.old }
+    requires fits { ServingFits plan.now (serving shard parts.old views.old ahead.old) }
+    requires held { IsHeld parts.old ahead.old }
     requires count { CanCount views.old ahead.old }
-    ensures answer { IfOk result (λ answer. (r : ServerStep) × Handles plan.now (serving shard kept.old views.old ahead.old).state msg.now r × (r.answer ≡ answer)) }
-    ensures fits { ServingFits plan.now (serving shard kept.new views.new ahead.new) }
-    ensures ready { OnOk result (IsReady (serving shard kept.new views.new ahead.new) outbox.new msg.now) }
-    ensures again { HasRoom (serving shard kept.old views.old ahead.old) outbox.old msg.now → IsOk result }
+    ensures answer { IfOk result (λ answer. (r : ServerStep) × Handles plan.now (serving shard parts.old views.old ahead.old).state msg.now r × (r.answer ≡ answer)) }
+    ensures fits { ServingFits plan.now (serving shard parts.new views.new ahead.new) }
+    ensures ready { OnOk result (IsReady (serving shard parts.new views.new ahead.new) outbox.new msg.now) }
+    ensures again { HasRoom (serving shard parts.old views.old ahead.old) outbox.old msg.now → IsOk result }
     ensures none { OnErr result (ahead.new ≡ None) }
-    ensures state { (serving shard kept.new views.new ahead.new).state ≡ (serving shard kept.old views.old ahead.old).state }
+    ensures state { (serving shard parts.new views.new ahead.new).state ≡ (serving shard parts.old views.old ahead.old).state }
     ensures views { viewing_of views.new ≡ viewing_of views.old }
     ensures same { HoldsSame outbox.old outbox.new }
-    ensures held { IsHeld kept.new ahead.new }
+    ensures held { IsHeld parts.new ahead.new }
     ensures count { CanCount views.new ahead.new }
 {
     if !needs_room(msg) {
-        let_go(kept, ahead);
+        let_go(parts, ahead);
         return Ok(foreign());
     }
-    match make_ready(alloc, plan, shard, kept, views, ahead, msg, outbox) {
+    match make_ready(alloc, plan, shard, parts, views, ahead, msg, outbox) {
         Ok(answer) => Ok(answer),
         Err(NoMemory) => {
-            let_go(kept, ahead);
+            let_go(parts, ahead);
             Err(NoMemory)
         }
     }
@@ -72,27 +69,27 @@ fn make_ready(
     alloc: Global,
     plan: &Plan,
     shard: Shard,
-    kept: &mut ServerData,
+    parts: &mut ServerParts,
     views: &mut Views,
     ahead: &mut Option<Ahead>,
     msg: &Msg,
     outbox: &mut Outbox,
 ) -> Result<Handled, NoMemory>
     requires kind { needs_room msg.now ≡ true }
-    requires fits { ServingFits plan.now (serving shard kept.old views.old ahead.old) }
-    requires held { IsHeld kept.old ahead.old }
+    requires fits { ServingFits plan.now (serving shard parts.old views.old ahead.old) }
+    requires held { IsHeld parts.old ahead.old }
     requires count { CanCount views.old ahead.old }
-    ensures answer { IfOk result (λ answer. (r : ServerStep) × Handles plan.now (serving shard kept.old views.old ahead.old).state msg.now r × (r.answer ≡ answer)) }
-    ensures fits { ServingFits plan.now (serving shard kept.new views.new ahead.new) }
-    ensures made { OnOk result (HasAllMade (serving shard kept.new views.new ahead.new) outbox.new msg.now) }
-    ensures again { HasRoom (serving shard kept.old views.old ahead.old) outbox.old msg.now → IsOk result }
-    ensures state { (serving shard kept.new views.new ahead.new).state ≡ (serving shard kept.old views.old ahead.old).state }
+    ensures answer { IfOk result (λ answer. (r : ServerStep) × Handles plan.now (serving shard parts.old views.old ahead.old).state msg.now r × (r.answer ≡ answer)) }
+    ensures fits { ServingFits plan.now (serving shard parts.new views.new ahead.new) }
+    ensures made { OnOk result (HasAllMade (serving shard parts.new views.new ahead.new) outbox.new msg.now) }
+    ensures again { HasRoom (serving shard parts.old views.old ahead.old) outbox.old msg.now → IsOk result }
+    ensures state { (serving shard parts.new views.new ahead.new).state ≡ (serving shard parts.old views.old ahead.old).state }
     ensures views { viewing_of views.new ≡ viewing_of views.old }
     ensures same { HoldsSame outbox.old outbox.new }
-    ensures held { IsHeld kept.new ahead.new }
+    ensures held { IsHeld parts.new ahead.new }
     ensures count { CanCount views.new ahead.new }
 {
-    match make_once(alloc, plan, shard, kept, views, ahead, msg) {
+    match make_once(alloc, plan, shard, parts, views, ahead, msg) {
         Ok(()) => make_room(ahead, outbox),
         Err(NoMemory) => Err(NoMemory),
     }
@@ -103,28 +100,28 @@ fn make_once(
     alloc: Global,
     plan: &Plan,
     shard: Shard,
-    kept: &mut ServerData,
+    parts: &mut ServerParts,
     views: &mut Views,
     ahead: &mut Option<Ahead>,
     msg: &Msg,
 ) -> Result<(), NoMemory>
     requires kind { needs_room msg.now ≡ true }
-    requires fits { ServingFits plan.now (serving shard kept.old views.old ahead.old) }
-    requires held { IsHeld kept.old ahead.old }
+    requires fits { ServingFits plan.now (serving shard parts.old views.old ahead.old) }
+    requires held { IsHeld parts.old ahead.old }
     requires count { CanCount views.old ahead.old }
     ensures made { OnOk result (IsSome ahead.new × IfSome ahead.new (λ made. made.msg.value ≡ msg.now)) }
     ensures again { IsSome ahead.old × IfSome ahead.old (λ made. made.msg.value ≡ msg.now) → IsOk result × (ahead.new ≡ ahead.old) }
-    ensures fits { ServingFits plan.now (serving shard kept.new views.new ahead.new) }
-    ensures state { (serving shard kept.new views.new ahead.new).state ≡ (serving shard kept.old views.old ahead.old).state }
+    ensures fits { ServingFits plan.now (serving shard parts.new views.new ahead.new) }
+    ensures state { (serving shard parts.new views.new ahead.new).state ≡ (serving shard parts.old views.old ahead.old).state }
     ensures views { viewing_of views.new ≡ viewing_of views.old }
-    ensures held { IsHeld kept.new ahead.new }
+    ensures held { IsHeld parts.new ahead.new }
     ensures count { CanCount views.new ahead.new }
 {
     if is_made(ahead, msg) {
         return Ok(());
     }
-    let_go(kept, ahead);
-    make(alloc, plan, shard, kept, views, ahead, msg)
+    let_go(parts, ahead);
+    make(alloc, plan, shard, parts, views, ahead, msg)
 }
 
 // Whether a message is of a kind that takes memory.
@@ -156,15 +153,14 @@ fn is_made(ahead: &Option<Ahead>, msg: &Msg) -> bool
 }
 
 // What was made ahead, if anything was, is given up.
-pub(crate) fn let_go(kept: &mut ServerData, ahead: &mut Option<Ahead>)
-    requires { IsHeld kept.old ahead.old }
-    ensures state { (shard : At) → state_of shard kept.new ≡ state_of shard (kept_before kept.old ahead.old) }
+pub(crate) fn let_go(parts: &mut ServerParts, ahead: &mut Option<Ahead>)
+    requires { IsHeld parts.old ahead.old }
+    ensures state { (shard : At) → state_of shard parts.new ≡ state_of shard parts.old }
     ensures none { ahead.new ≡ None }
-    ensures sound { IsConsistent kept.new }
+    ensures held { IsHeld parts.new ahead.new }
 {
-    if let Some(made) = ahead.take() {
-        let outcome = made.outcome;
-        undo(kept, outcome.change);
+    if ahead.take().is_some() {
+        roll_back(parts);
     }
 }
 
@@ -177,121 +173,122 @@ fn foreign() -> Handled
 
 // Takes what was made ahead, for which there is room in the outbox. Where nothing was, the message was of a kind that no server takes.
 pub(crate) fn take_ready(
-    kept: &mut ServerData,
+    parts: &mut ServerParts,
     views: &mut Views,
     ahead: &mut Option<Ahead>,
     outbox: &mut Outbox,
 ) -> Handled
-    requires held { IsHeld kept.old ahead.old }
+    requires held { IsHeld parts.old ahead.old }
     requires count { CanCount views.old ahead.old }
     requires room { IfSome ahead.old (λ made. HasRoomFor outbox.old made.outcome.sends) }
-    ensures step { (plan : Groups) (shard : At) (msg : Message) → ServingFits plan (serving shard kept.old views.old ahead.old) → IsReady (serving shard kept.old views.old ahead.old) outbox.old msg
-        → IsServed plan (serving shard kept.old views.old ahead.old).state (viewing_of views.old) msg result (state_of shard kept.new) (viewing_of views.new) outbox.old outbox.new }
-    ensures fits { (plan : Groups) (shard : At) → ServingFits plan (serving shard kept.old views.old ahead.old) → ServingFits plan (serving shard kept.new views.new ahead.new) }
+    ensures step { (plan : Groups) (shard : At) (msg : Message) → ServingFits plan (serving shard parts.old views.old ahead.old) → IsReady (serving shard parts.old views.old ahead.old) outbox.old msg
+        → IsServed plan (state_of shard parts.old) (viewing_of views.old) msg result (state_of shard parts.new) (viewing_of views.new) outbox.old outbox.new }
+    ensures fits { (plan : Groups) (shard : At) → ServingFits plan (serving shard parts.old views.old ahead.old) → ServingFits plan (serving shard parts.new views.new ahead.new) }
     ensures none { ahead.new ≡ None }
-    ensures sound { IsConsistent kept.new }
+    ensures held { IsHeld parts.new ahead.new }
 {
     match ahead.take() {
-        Some(Ahead { msg: _, outcome }) => finish(kept, views, outcome, outbox),
+        Some(Ahead { msg: _, outcome }) => finish(parts, views, outcome, outbox),
         None => foreign(),
     }
 }
 
-// Plans what comes of a message, and what comes of that for reads. No count and no kept read changes.
-fn prepare_step(
-    alloc: Global,
-    plan: &Plan,
-    shard: Shard,
-    kept: &mut ServerData,
-    views: &mut Views,
-    msg: &Msg,
-) -> Result<Outcome, NoMemory>
-    requires kind { needs_room msg.now ≡ true }
-    requires fits { AreGroupsOf plan.now kept.old.started.groups }
-    requires reads { AreReadsOf plan.now views.old.reads.items }
-    requires sound { IsConsistent kept.old }
-    ensures made { IfOk result (λ o. IsMadeFor plan.now (state_of shard kept.old) (viewing_of views.old) (made_of shard kept.new views.new msg.now o)) }
-    ensures planned { IfOk result (λ o. IsPlannedFrom kept.old kept.new o.change) }
-    ensures count { IfOk result (λ o. HasRoomToCount o.sends.ran views.new) }
-    ensures views { viewing_of views.new ≡ viewing_of views.old }
-    ensures err { OnErr result (IsSame kept.old kept.new) }
-{
-    let mut sends = Outbox::new(alloc);
-    let planned = prepare_message(alloc, plan, shard, kept, msg, &mut sends)?;
-    match prepare_reads(alloc, plan, shard, kept, views, msg, &planned, &mut sends) {
-        Ok(stays) => Ok(Outcome {
-            answer: planned.answer,
-            change: planned.change,
-            sends,
-            stays,
-        }),
-        Err(NoMemory) => {
-            undo(kept, planned.change);
-            Err(NoMemory)
-        }
-    }
-}
-
-// What was planned is done, and sent, for which there is room. What ran is counted from the outbox.
+// What was tried is kept, and sent, for which there is room. What ran is counted from the outbox.
 fn finish(
-    kept: &mut ServerData,
+    parts: &mut ServerParts,
     views: &mut Views,
     outcome: Outcome,
     outbox: &mut Outbox,
 ) -> Handled
-    requires planned { IsPlanned kept.old outcome.change }
+    requires sound { IsSound parts.old }
+    requires can { CanRelease parts.old }
     requires count { HasRoomToCount outcome.sends.ran views.old }
     requires room { HasRoomFor outbox.old outcome.sends }
     ensures answer { outcome.answer ≡ result }
-    ensures state { (shard : At) → state_of shard kept.new ≡ after shard kept.old outcome.change }
+    ensures state { (shard : At) → state_of shard parts.new ≡ state_behind shard parts.old }
     ensures views { viewing_of views.new ≡ viewing_then (viewing_of views.old) outcome.answer outcome.sends.ran outcome.stays }
     ensures sent { HoldsAlso outbox.old outbox.new outcome.sends }
-    ensures sound { IsConsistent kept.new }
+    ensures sound { IsSound parts.new }
+    ensures idle { IsIdle parts.new }
 {
     let Outcome {
         answer,
-        change,
         sends,
         stays,
     } = outcome;
     let ran_before = outbox.ran().len();
     outbox.append(sends).unwrap();
-    commit(kept, change);
+    release(parts);
     keep_views(views, answer, &outbox.ran()[ran_before..], stays);
     answer
 }
 
-// Plans a message ahead, where nothing is made ahead.
+// Makes ahead what comes of a message, where nothing is made ahead. Where there is no memory, what was tried is taken back.
 fn make(
     alloc: Global,
     plan: &Plan,
     shard: Shard,
-    kept: &mut ServerData,
+    parts: &mut ServerParts,
     views: &mut Views,
     ahead: &mut Option<Ahead>,
     msg: &Msg,
 ) -> Result<(), NoMemory>
     requires kind { needs_room msg.now ≡ true }
     requires none { ahead.old ≡ None }
-    requires fits { AreGroupsOf plan.now kept.old.started.groups }
+    requires fits { AreGroupsOf plan.now parts.old.groups.kept }
     requires reads { AreReadsOf plan.now views.old.reads.items }
-    requires sound { IsConsistent kept.old }
-    ensures made { OnOk result (IfSome (serving shard kept.new views.new ahead.new).ahead (λ made. (made.msg ≡ msg.now) × IsMadeFor plan.now (state_of shard kept.old) (viewing_of views.old) made)) }
+    requires held { IsHeld parts.old ahead.old }
+    ensures made { OnOk result (IfSome (serving shard parts.new views.new ahead.new).ahead (λ made. (made.msg ≡ msg.now) × IsMadeFor plan.now (state_of shard parts.old) (viewing_of views.old) made)) }
     ensures some { OnOk result (IsSome ahead.new) }
-    ensures state { (serving shard kept.new views.new ahead.new).state ≡ state_of shard kept.old }
+    ensures state { state_of shard parts.new ≡ state_of shard parts.old }
     ensures views { viewing_of views.new ≡ viewing_of views.old }
     ensures none { OnErr result (ahead.new ≡ None) }
-    ensures held { IsHeld kept.new ahead.new }
+    ensures held { IsHeld parts.new ahead.new }
     ensures count { CanCount views.new ahead.new }
 {
     let copy = shared(alloc, msg)?;
-    match prepare_step(alloc, plan, shard, kept, views, msg) {
+    match try_step(alloc, plan, shard, parts, views, msg) {
         Ok(outcome) => {
             put(ahead, copy, outcome);
             Ok(())
         }
-        Err(NoMemory) => Err(NoMemory),
+        Err(NoMemory) => {
+            roll_back(parts);
+            Err(NoMemory)
+        }
     }
+}
+
+// Tries what comes of a message, and finds what comes of that for reads. No count and no kept read changes.
+fn try_step(
+    alloc: Global,
+    plan: &Plan,
+    shard: Shard,
+    parts: &mut ServerParts,
+    views: &mut Views,
+    msg: &Msg,
+) -> Result<Outcome, NoMemory>
+    requires kind { needs_room msg.now ≡ true }
+    requires fits { AreGroupsOf plan.now parts.old.groups.kept }
+    requires reads { AreReadsOf plan.now views.old.reads.items }
+    requires sound { IsSound parts.old }
+    requires idle { IsIdle parts.old }
+    ensures made { IfOk result (λ o. IsMadeFor plan.now (state_of shard parts.old) (viewing_of views.old) (made_of shard parts.new views.new msg.now o)) }
+    ensures can { OnOk result (CanRelease parts.new) }
+    ensures count { IfOk result (λ o. HasRoomToCount o.sends.ran views.new) }
+    ensures views { viewing_of views.new ≡ viewing_of views.old }
+    ensures state { state_of shard parts.new ≡ state_of shard parts.old }
+    ensures sound { IsSound parts.new }
+{
+    let mut sends = Outbox::new(alloc);
+    parts.rows.savepoint();
+    let answer = try_message(alloc, plan, shard, parts, msg, &mut sends)?;
+    let stays = answer_reads(alloc, plan, shard, parts, views, msg, answer, &mut sends)?;
+    Ok(Outcome {
+        answer,
+        sends,
+        stays,
+    })
 }
 
 // A copy of a message, as one pointer.

@@ -30,26 +30,18 @@
 #![tactic(auto)]
 
 mod ahead;
-mod changes;
 mod commits;
 mod fetches;
 mod first;
-mod found;
 mod handling;
-mod learning;
-mod marks;
-mod missing;
-mod planned;
-mod planning;
+mod parts;
 mod reads;
-mod renewing;
 mod server;
-mod server_data;
 mod settled;
 mod started_now;
 mod starts;
-mod taken;
 mod teach;
+mod trying;
 mod waiting;
 
 pub use roc_step::{Handled, KeptRead, StartedGroup, Waiting};

@@ -3,102 +3,70 @@ ghost use Rattle.std.specs.Prelude.{◌≡◌, ℕ, IfOk, OnOk, unwrap_or};
 ghost use Rattle.roc_step.specs.declared.handled.Handled.TheVariants.{Done};
 ghost use Rattle.roc_step.specs.Fits.{AreReadsOf};
 ghost use Rattle.roc_step.specs.Reads.{read_refusal};
+ghost use Rattle.roc_step.specs.State.{ServerState};
+ghost use Rattle.roc_server_lists.specs.ListsNow.{lists_of};
 ghost use Rattle.roc_server_reads.specs.Answering.{TakenFits};
 ghost use Rattle.roc_server_reads.specs.Views.{reads_then, viewing_of, HasRoomToCount};
-ghost use Rattle.roc_server.specs.declared.planned.Change.TheVariants.{Nothing};
-ghost use Rattle.roc_server.specs.Inner.Answering.{newly, starting, PlansReads};
-ghost use Rattle.roc_server.specs.Inner.Planned.{IsPlanned};
-ghost use Rattle.roc_server.specs.Inner.ServerData.{state_of};
+ghost use Rattle.roc_server.specs.Inner.Answering.{PlansReads};
+ghost use Rattle.roc_server.specs.Inner.Parts.{state_behind, CanRelease, IsSound};
 
-use crate::planned::{Change, Planned, nothing};
-use crate::server_data::ServerData;
-use crate::{Handled, KeptRead, StartedGroup};
+use crate::parts::ServerParts;
+use crate::{Handled, KeptRead};
 use roc_base::{NoMemory, Nums, Shard, TxnId};
 use roc_msg::{Msg, Outbox};
 use roc_plan::Plan;
+use roc_server_lists::ServerLists;
 use roc_server_reads::{Behind, Views, plan_reads, read_refusal};
 use std::alloc::Global;
-use std::slice;
 
-// Plans what a read is answered: it is taken, comes too late, or is ignored for the first reason that holds. It changes nothing.
-pub(crate) fn prepare_read(
+// What a read is answered: it is taken, comes too late, or is ignored for the first reason that holds. It changes nothing.
+pub(crate) fn judge_read(
     alloc: Global,
     plan: &Plan,
     shard: Shard,
-    kept: &ServerData,
+    lists: &ServerLists,
     id: TxnId,
     proc: u16,
     group: u16,
     args: &Nums,
-) -> Result<Planned, NoMemory>
-    ensures change { IfOk result (λ p. p.change ≡ Nothing) }
-    ensures answer { IfOk result (λ p. (round : ℕ)
-        → p.answer ≡ unwrap_or (read_refusal plan.now (state_of shard kept.now) (record { id = id; round = round; proc = proc; group = group; args = args.now })) Done) }
+) -> Result<Handled, NoMemory>
+    ensures { IfOk result (λ answer. (s : ServerState) (round : ℕ) → s.shard ≡ shard → lists_of s ≡ lists.now.kept
+        → answer ≡ unwrap_or (read_refusal plan.now s (record { id = id; round = round; proc = proc; group = group; args = args.now })) Done) }
 {
-    let ended = kept.marks.is_ended(id);
+    let ended = lists.is_ended(id);
     let refusal = read_refusal(alloc, plan, shard, ended, proc, group, args)?;
-    Ok(nothing(refusal.unwrap_or(Handled::Done)))
+    Ok(refusal.unwrap_or(Handled::Done))
 }
 
-// Plans what comes of a step for reads, once all else that it sends stands in `sends`: those that are free then are answered. Gives the
+// Finds what comes of a step for reads, once all else that it sends stands in `sends`: those that are free then are answered. Gives the
 // reads that stay, where others stay than are kept. No count and no read changes.
-pub(crate) fn prepare_reads(
+pub(crate) fn answer_reads(
     alloc: Global,
     plan: &Plan,
     shard: Shard,
-    kept: &ServerData,
+    parts: &ServerParts,
     views: &mut Views,
     msg: &Msg,
-    planned: &Planned,
+    answer: Handled,
     sends: &mut Outbox,
 ) -> Result<Option<Vec<KeptRead>>, NoMemory>
     requires fits { AreReadsOf plan.now views.old.reads.items }
-    requires taken { TakenFits plan.now msg.now planned.now.answer }
-    requires planned { IsPlanned kept.now planned.now.change }
-    ensures step { IfOk result (λ stays. PlansReads plan.now shard kept.now planned.now.change (viewing_of views.old) msg.now planned.now.answer sends.old sends.new stays) }
+    requires taken { TakenFits plan.now msg.now answer }
+    requires sound { IsSound parts.now }
+    requires can { CanRelease parts.now }
+    ensures step { IfOk result (λ stays. PlansReads plan.now (state_behind shard parts.now) (viewing_of views.old) msg.now answer sends.old sends.new stays) }
     ensures fits { IfOk result (λ stays. AreReadsOf plan.now (reads_then views.old.reads.items stays)) }
     ensures same { viewing_of views.new ≡ viewing_of views.old }
     ensures ran { OnOk result (sends.new.ran ≡ sends.old.ran) }
     ensures room { OnOk result (HasRoomToCount sends.new.ran views.new) }
 {
-    let change = &planned.change;
     let behind = Behind::new(
-        &kept.rows,
-        &kept.started,
-        &kept.index,
-        &kept.table,
-        newly_decided(change),
-        starting(change),
+        &parts.rows,
+        parts.groups.started(),
+        parts.groups.index(),
+        parts.lists.table(),
+        parts.lists.newly(),
+        parts.groups.starting(),
     );
-    plan_reads(
-        alloc,
-        plan,
-        shard,
-        &behind,
-        views,
-        msg,
-        planned.answer,
-        sends,
-    )
-}
-
-// What a change newly decides.
-fn newly_decided(change: &Change) -> &[TxnId]
-    ensures { result.now ≡ newly change.now }
-{
-    match change {
-        Change::Lists(lesson) => lesson.found.ids.as_slice(),
-        Change::Settled(settlement) => settlement.found.ids.as_slice(),
-        _ => &[],
-    }
-}
-
-// The group that starts.
-fn starting(change: &Change) -> &[StartedGroup]
-    ensures { result.now ≡ starting change.now }
-{
-    match change {
-        Change::Group(group) => slice::from_ref(group),
-        _ => &[],
-    }
+    plan_reads(alloc, plan, shard, &behind, views, msg, answer, sends)
 }

@@ -12,8 +12,6 @@ ghost use Rattle.roc_server.specs.Ahead.{HasRoom, HasRoomToTake, IsReady, Servin
 ghost use Rattle.roc_step.specs.Below.{is_ended};
 ghost use Rattle.roc_step.specs.First.{first_server};
 ghost use Rattle.roc_step.specs.Fits.{ServerFits};
-ghost use Rattle.roc_server.specs.Inner.Held.{kept_before};
-ghost use Rattle.roc_server.specs.Inner.Planned.{before};
 ghost use Rattle.roc_step.specs.Reads.{first_viewing, AnswersReads, ReadStep};
 ghost use Rattle.roc_step.specs.Renewed.{renewed, renewed_viewing};
 ghost use Rattle.roc_step.specs.Restarts.{without_reads};
@@ -21,14 +19,11 @@ ghost use Rattle.roc_step.specs.Start.{is_immediate, entries_for, users};
 ghost use Rattle.roc_step.specs.State.{ServerStep};
 ghost use Rattle.roc_step.specs.Step.{Handles, Shows, tick_sends};
 ghost use Rattle.roc_step.specs.Waiting.{waiting_groups};
-ghost use Rattle.roc_server.specs.declared.server_data.ServerData.{ServerData};
 
 use crate::ahead::Ahead;
 use crate::first::first_rows;
 use crate::handling::{let_go, ready, take_ready};
-use crate::planned::Change;
-use crate::renewing::renew;
-use crate::server_data::ServerData;
+use crate::parts::{ServerParts, renew};
 use crate::waiting::all_waiting;
 use crate::{Handled, Waiting};
 use roc_await::OpenFetch;
@@ -36,7 +31,7 @@ use roc_base::{Edges, NoMemory, Shard, Steps, TxnId};
 use roc_group::Access;
 use roc_msg::{Msg, NodeFault, Outbox};
 use roc_plan::{Class, Plan};
-use roc_rows::{Cell, Rows};
+use roc_rows::Cell;
 use roc_server_groups::{Starting, entries};
 use roc_server_lists::send_fetches;
 use roc_server_reads::{Views, drop_reads};
@@ -51,7 +46,7 @@ use std::sync::ledger::Ledger;
 pub struct Server {
     alloc: Global,
     shard: Shard,
-    kept: ServerData,
+    parts: ServerParts,
     views: Views,
     ahead: Option<Ahead>,
 }
@@ -67,9 +62,9 @@ impl Model for Server {
 
     ghost use Rattle.roc_server.specs.Inner.Held.{serving, CanCount, IsHeld};
 
-    ghost view = { λ s. serving s.shard s.kept s.views s.ahead };
+    ghost view = { λ s. serving s.shard s.parts s.views s.ahead };
 
-    ghost invariant = { λ s. IsHeld s.kept s.ahead × CanCount s.views s.ahead };
+    ghost invariant = { λ s. IsHeld s.parts s.ahead × CanCount s.views s.ahead };
 }
 
 impl Server {
@@ -85,7 +80,7 @@ impl Server {
         Ok(Server {
             alloc,
             shard,
-            kept: ServerData::new(alloc, rows),
+            parts: ServerParts::new(alloc, rows),
             views: Views::new(alloc),
             ahead: None,
         })
@@ -118,7 +113,7 @@ impl Server {
             alloc,
             plan,
             shard,
-            &mut self.kept,
+            &mut self.parts,
             &mut self.views,
             &mut self.ahead,
             msg,
@@ -140,7 +135,7 @@ impl Server {
         ensures none { self.new.ahead ≡ None }
         ensures shard { self.new.state.shard ≡ self.old.state.shard }
     {
-        take_ready(&mut self.kept, &mut self.views, &mut self.ahead, outbox)
+        take_ready(&mut self.parts, &mut self.views, &mut self.ahead, outbox)
     }
 
     /// Gives up what was made ahead, where something was. Takes no memory.
@@ -150,7 +145,7 @@ impl Server {
         ensures none { self.new.ahead ≡ None }
         ensures fits { (plan : Groups) → ServingFits plan self.old → ServingFits plan self.new }
     {
-        let_go(&mut self.kept, &mut self.ahead);
+        let_go(&mut self.parts, &mut self.ahead);
     }
 
     /// Takes a message, finds that it came too late, or ignores it for the first reason that holds. What it sends and what it
@@ -185,7 +180,12 @@ impl Server {
         ensures same { self.new ≡ self.old }
         ensures err { OnErr result (HoldsSame outbox.old outbox.new) }
     {
-        match fetch_again(self.alloc, self.shard, self.kept.waits.open(), outbox) {
+        match fetch_again(
+            self.alloc,
+            self.shard,
+            self.parts.lists.waits().open(),
+            outbox,
+        ) {
             Ok(()) => Ok(()),
             Err(NoMemory) => Err(NodeFault::NoMemory),
         }
@@ -197,7 +197,7 @@ impl Server {
         ensures views { self.new.viewing ≡ without_reads self.old.viewing }
         ensures none { self.new.ahead ≡ None }
     {
-        let_go(&mut self.kept, &mut self.ahead);
+        let_go(&mut self.parts, &mut self.ahead);
         drop_reads(&mut self.views);
     }
 
@@ -208,8 +208,8 @@ impl Server {
         ensures none { self.new.ahead ≡ None }
         ensures fits { (plan : Groups) → ServingFits plan self.new }
     {
-        let_go(&mut self.kept, &mut self.ahead);
-        renew(self.alloc, &mut self.kept);
+        let_go(&mut self.parts, &mut self.ahead);
+        renew(&mut self.parts);
         drop_reads(&mut self.views);
     }
 
@@ -218,14 +218,14 @@ impl Server {
     pub fn decided(&self, id: TxnId) -> bool
         ensures { IsTrue result ↔ IsDecided self.now.state.lists.links id }
     {
-        self.kept.table.is_decided(id)
+        self.parts.lists.table().is_decided(id)
     }
 
     /// Whether a transaction is below the highest watermark that was heard of its coordinator, and so was answered there. Takes no memory.
     pub fn ended(&self, id: TxnId) -> bool
         ensures { result ≡ is_ended self.now.state.below id }
     {
-        self.kept.marks.is_ended(id)
+        self.parts.lists.is_ended(id)
     }
 
     /// The entries of a group of this class that would start now and use these cells. A step is one look at a started group. What is
@@ -253,8 +253,8 @@ impl Server {
         entries(
             self.alloc,
             plan,
-            &self.kept.started,
-            &self.kept.index,
+            self.parts.groups.started(),
+            self.parts.groups.index(),
             starting,
             cells,
             steps,
@@ -267,14 +267,14 @@ impl Server {
         requires fits { ServerFits plan.now self.now.state }
         ensures { IfOk result (λ groups. (decided : List Id) → AreDecided self.now.state.lists.links decided → groups.items ≡ waiting_groups plan.now decided self.now.state) }
     {
-        all_waiting(self.alloc, plan, &self.kept)
+        all_waiting(self.alloc, plan, &self.parts)
     }
 
     /// The cells that are not 0, each with its number, by cell rising.
     pub fn cells(&self) -> Result<Vec<(Cell, i64)>, NoMemory>
         ensures { IfOk result (λ cells. cells.items ≡ entries self.now.state.store) }
     {
-        cells_before(&self.kept.rows, &self.ahead)
+        self.parts.rows.nonzero_saved()
     }
 }
 
@@ -283,26 +283,6 @@ fn is_immediate(class: Class) -> bool
     ensures { result ≡ is_immediate class }
 {
     class == Class::Immediate
-}
-
-// The cells that are not 0 before what was made ahead.
-fn cells_before(rows: &Rows, ahead: &Option<Ahead>) -> Result<Vec<(Cell, i64)>, NoMemory>
-    ensures { IfOk result (λ cells. (kept : ServerData) → kept.rows ≡ rows.now → cells.items ≡ entries (kept_before kept ahead.now).rows.store) }
-{
-    match ahead {
-        Some(made) => cells_before_change(rows, &made.outcome.change),
-        None => rows.nonzero(),
-    }
-}
-
-// The same before a change.
-fn cells_before_change(rows: &Rows, change: &Change) -> Result<Vec<(Cell, i64)>, NoMemory>
-    ensures { IfOk result (λ cells. (kept : ServerData) → kept.rows ≡ rows.now → cells.items ≡ entries (before kept change.now).rows.store) }
-{
-    match change {
-        Change::Nothing | Change::Asker(_) | Change::Marks(_) => rows.nonzero(),
-        Change::Group(_) | Change::Lists(_) | Change::Settled(_) => rows.nonzero_saved(),
-    }
 }
 
 // Asks again for these lists, all or none.

@@ -6,11 +6,11 @@ ghost use Rattle.roc_step.specs.Fits.{IsCallOf, AreGroupsOf};
 ghost use Rattle.roc_step.specs.Start.{conflicts_before, edge_to};
 ghost use Rattle.roc_server_groups.specs.Groups.{is_same_group};
 ghost use Rattle.roc_server_groups.specs.Indexed.{IsIndexOf};
-ghost use Rattle.roc_server.specs.Inner.ServerData.{asked};
-ghost use Rattle.roc_server.specs.Inner.Starts.{IsNewGroup, KeepsBeside};
+ghost use Rattle.roc_server.specs.Inner.Parts.{state_of, IsIdle, IsSound};
+ghost use Rattle.roc_server.specs.Inner.Starts.{asked, IsNewGroup};
 
 use crate::StartedGroup;
-use crate::server_data::ServerData;
+use crate::parts::ServerParts;
 use crate::starts::Request;
 use roc_base::{Edges, NoMemory, Shard};
 use roc_group::Access;
@@ -25,22 +25,22 @@ use std::sync::ledger::Blank;
 fn edges_of(
     alloc: Global,
     plan: &Plan,
-    kept: &ServerData,
+    parts: &ServerParts,
     starting: Starting,
     cells: &[Access],
 ) -> Result<Edges, NoMemory>
-    requires fits { AreGroupsOf plan.now kept.now.started.groups }
-    requires once { NoneTwice is_same_group kept.now.started.groups }
-    requires index { IsIndexOf kept.now.index kept.now.table.decided kept.now.started.groups }
+    requires fits { AreGroupsOf plan.now parts.now.groups.ran }
+    requires once { NoneTwice is_same_group parts.now.groups.ran }
+    requires index { IsIndexOf parts.now.groups.index parts.now.lists.decided parts.now.groups.ran }
     ensures { IfOk result (λ edges. edges
-        ≡ united (map (edge_to starting.shard starting.immediate) (filter (conflicts_before plan.now kept.now.table.decided starting.id starting.immediate cells.now) kept.now.started.groups))) }
+        ≡ united (map (edge_to starting.shard starting.immediate) (filter (conflicts_before plan.now parts.now.lists.decided starting.id starting.immediate cells.now) parts.now.groups.ran))) }
 {
     let blank = Blank::new(1);
     edges_for::<Brand>(
         alloc,
         plan,
-        &kept.started,
-        &kept.index,
+        parts.groups.started(),
+        parts.groups.index(),
         starting,
         cells,
         blank,
@@ -52,16 +52,17 @@ pub(crate) fn new_group(
     alloc: Global,
     plan: &Plan,
     shard: Shard,
-    kept: &mut ServerData,
+    parts: &mut ServerParts,
     request: Request,
 ) -> Result<StartedGroup, NoMemory>
     requires call { IsCallOf plan.now (asked request) }
-    requires fits { AreGroupsOf plan.now kept.old.started.groups }
-    requires once { NoneTwice is_same_group kept.old.started.groups }
-    requires index { IsIndexOf kept.old.index kept.old.table.decided kept.old.started.groups }
-    ensures new { IfOk result (λ e. IsNewGroup plan.now shard kept.old kept.new request.id (asked request) e) }
-    ensures beside { KeepsBeside kept.old kept.new }
-    ensures saved { kept.new.rows.saved ≡ kept.old.rows.saved }
+    requires fits { AreGroupsOf plan.now parts.old.groups.kept }
+    requires sound { IsSound parts.old }
+    requires idle { IsIdle parts.old }
+    ensures new { IfOk result (λ e. IsNewGroup plan.now parts.old.lists.decided (state_of shard parts.old) parts.new.rows.store request.id (asked request) e) }
+    ensures groups { parts.new.groups ≡ parts.old.groups }
+    ensures lists { parts.new.lists ≡ parts.old.lists }
+    ensures saved { parts.new.rows.saved ≡ parts.old.rows.saved }
 {
     let Request {
         id,
@@ -76,15 +77,15 @@ pub(crate) fn new_group(
         proc,
         group,
         &known,
-        &mut kept.rows,
+        &mut parts.rows,
     )?;
     let starting = Starting {
         shard,
         id,
         immediate,
     };
-    let edges = edges_of(alloc, plan, kept, starting, cells.as_slice())?;
-    let facts = facts_for(alloc, &kept.table, edges.as_slice())?;
+    let edges = edges_of(alloc, plan, parts, starting, cells.as_slice())?;
+    let facts = facts_for(alloc, parts.lists.table(), edges.as_slice())?;
     let Known { args, inputs } = known;
     Ok(StartedGroup {
         id,

@@ -5,23 +5,19 @@ ghost use Rattle.roc_msg.specs.Outbox.{HasSent, HasRun, HoldsSame};
 ghost use Rattle.roc_group.specs.GroupRun.{call};
 ghost use Rattle.roc_plan.specs.Groups.{groups_of, is_immediate_of};
 ghost use Rattle.roc_step.specs.Fits.{IsCallOf, AreGroupsOf};
-ghost use Rattle.roc_server_groups.specs.Indexed.{HasRoomAtCells};
-ghost use Rattle.roc_server.specs.Inner.Planned.{after, IsPlannedFrom};
-ghost use Rattle.roc_server.specs.Inner.ServerData.{state_of, asked, IsConsistent, IsSame};
-ghost use Rattle.roc_server.specs.Inner.Starts.{IsNewGroup, KeepsBeside, StartTaken, StartsNew, TellsStart};
+ghost use Rattle.roc_server.specs.Inner.Parts.{state_behind, state_of, CanRelease, IsIdle, IsSound, Keeps};
+ghost use Rattle.roc_server.specs.Inner.Starts.{asked, start_fault, StartTaken, StartsNew, TellsStart};
 ghost use Rattle.roc_step.specs.Runs.{accesses_of};
-ghost use Rattle.roc_server.specs.Inner.Starts.{start_fault};
 ghost use Rattle.roc_step.specs.Start.{has_counts, start_refusal, startok_of};
 ghost use Rattle.roc_step.specs.State.{find_group};
 
-use crate::planned::{Change, Planned, nothing};
-use crate::server_data::ServerData;
+use crate::parts::ServerParts;
 use crate::started_now::new_group;
 use crate::{Handled, StartedGroup};
 use roc_base::{NoMemory, Node, Shard, TxnId};
 use roc_msg::{Msg, Outbox, Reason};
 use roc_plan::{Known, Plan};
-use roc_server_groups::{differs, find_group, is_immediate, note_group, reserve_group};
+use roc_server_groups::{differs, find_group, is_immediate, note_group};
 use std::alloc::Global;
 
 // A group that is asked to start.
@@ -33,90 +29,61 @@ pub(crate) struct Request {
     pub known: Known,
 }
 
-// Plans a start, or ignores it.
-pub(crate) fn prepare_start(
+// Tries a start, or ignores it.
+pub(crate) fn try_start(
     alloc: Global,
     plan: &Plan,
     shard: Shard,
-    kept: &mut ServerData,
+    parts: &mut ServerParts,
     request: Request,
     sends: &mut Outbox,
-) -> Result<Planned, NoMemory>
-    requires fits { AreGroupsOf plan.now kept.old.started.groups }
-    requires sound { IsConsistent kept.old }
-    ensures step { IfOk result (λ p. StartTaken plan.now shard kept.old (after shard kept.new p.change) sends.old sends.new request.id (asked request) p.answer) }
-    ensures fits { IfOk result (λ p. AreGroupsOf plan.now (after shard kept.new p.change).started) }
-    ensures planned { IfOk result (λ p. IsPlannedFrom kept.old kept.new p.change) }
-    ensures err { OnErr result (IsSame kept.old kept.new) }
+) -> Result<Handled, NoMemory>
+    requires fits { AreGroupsOf plan.now parts.old.groups.kept }
+    requires sound { IsSound parts.old }
+    requires idle { IsIdle parts.old }
+    ensures step { IfOk result (λ answer. StartTaken plan.now parts.old.lists.decided (state_of shard parts.old) (state_behind shard parts.new) sends.old sends.new request.id (asked request) answer) }
+    ensures fits { OnOk result (AreGroupsOf plan.now (state_behind shard parts.new).started) }
+    ensures can { OnOk result (CanRelease parts.new) }
+    ensures keeps { Keeps parts.old parts.new }
+    ensures sound { IsSound parts.new }
 {
-    if let Some(answer) = start_refusal(plan, shard, kept, &request) {
-        return Ok(nothing(answer));
+    if let Some(answer) = start_refusal(plan, shard, parts, &request) {
+        return Ok(answer);
     }
-    match find_group(&kept.started, request.id, request.group) {
+    match find_group(parts.groups.started(), request.id, request.group) {
         Some(earlier) => {
             send_startok(shard, earlier, sends)?;
-            Ok(nothing(Handled::Done))
+            Ok(Handled::Done)
         }
-        None => prepare_new(alloc, plan, shard, kept, request, sends),
+        None => start_new(alloc, plan, shard, parts, request, sends),
     }
 }
 
-// Plans the start of a group that is not here. Where there is no memory, what it set is undone.
-fn prepare_new(
+// Tries that a group starts that is not here.
+fn start_new(
     alloc: Global,
     plan: &Plan,
     shard: Shard,
-    kept: &mut ServerData,
+    parts: &mut ServerParts,
     request: Request,
     sends: &mut Outbox,
-) -> Result<Planned, NoMemory>
+) -> Result<Handled, NoMemory>
     requires call { IsCallOf plan.now (asked request) }
-    requires absent { find_group request.id request.group kept.old.started.groups ≡ None }
-    requires unknown { is_known kept.old.table.known request.id ≡ false }
-    requires fits { AreGroupsOf plan.now kept.old.started.groups }
-    requires sound { IsConsistent kept.old }
-    ensures step { IfOk result (λ p. StartsNew plan.now shard kept.old (after shard kept.new p.change) sends.old sends.new request.id (asked request) p.answer) }
-    ensures fits { IfOk result (λ p. AreGroupsOf plan.now (after shard kept.new p.change).started) }
-    ensures planned { IfOk result (λ p. IsPlannedFrom kept.old kept.new p.change) }
-    ensures err { OnErr result (IsSame kept.old kept.new) }
+    requires absent { find_group request.id request.group parts.old.groups.kept ≡ None }
+    requires unknown { is_known parts.old.lists.kept.lists.known request.id ≡ false }
+    requires fits { AreGroupsOf plan.now parts.old.groups.kept }
+    requires sound { IsSound parts.old }
+    requires idle { IsIdle parts.old }
+    ensures step { IfOk result (λ answer. StartsNew plan.now parts.old.lists.decided (state_of shard parts.old) (state_behind shard parts.new) sends.old sends.new request.id (asked request) answer) }
+    ensures fits { OnOk result (AreGroupsOf plan.now (state_behind shard parts.new).started) }
+    ensures can { OnOk result (CanRelease parts.new) }
+    ensures keeps { Keeps parts.old parts.new }
+    ensures sound { IsSound parts.new }
 {
-    kept.rows.savepoint();
-    match try_start(alloc, plan, shard, kept, request, sends) {
-        Ok(group) => Ok(Planned {
-            answer: Handled::Done,
-            change: Change::Group(group),
-        }),
-        Err(NoMemory) => {
-            kept.rows.rollback();
-            Err(NoMemory)
-        }
-    }
-}
-
-// The same behind a savepoint of the cells: what is to be kept of the group, for which there is room.
-fn try_start(
-    alloc: Global,
-    plan: &Plan,
-    shard: Shard,
-    kept: &mut ServerData,
-    request: Request,
-    sends: &mut Outbox,
-) -> Result<StartedGroup, NoMemory>
-    requires call { IsCallOf plan.now (asked request) }
-    requires fits { AreGroupsOf plan.now kept.old.started.groups }
-    requires sound { IsConsistent kept.old }
-    ensures new { IfOk result (λ e. IsNewGroup plan.now shard kept.old kept.new request.id (asked request) e) }
-    ensures told { IfOk result (λ e. TellsStart plan.now shard e sends.old sends.new) }
-    ensures place { OnOk result (0 < kept.new.started.spare) }
-    ensures room { IfOk result (λ e. HasRoomAtCells e.cells kept.new.index) }
-    ensures beside { KeepsBeside kept.old kept.new }
-    ensures saved { kept.new.rows.saved ≡ kept.old.rows.saved }
-{
-    let group = new_group(alloc, plan, shard, kept, request)?;
+    let group = new_group(alloc, plan, shard, parts, request)?;
     tell_start(plan, shard, &group, sends)?;
-    kept.started.reserve(1)?;
-    reserve_group(&mut kept.index, &group)?;
-    Ok(group)
+    parts.groups.start(group)?;
+    Ok(Handled::Done)
 }
 
 // Tells of a group that starts, and notes the accesses of one that ran.
@@ -145,15 +112,21 @@ fn note_if_immediate(plan: &Plan, group: &StartedGroup, sends: &mut Outbox) -> R
 }
 
 // What a start is answered that is not taken: it comes too late, or is ignored for the first reason that holds.
-fn start_refusal(plan: &Plan, shard: Shard, kept: &ServerData, request: &Request) -> Option<Handled>
-    ensures answer { result ≡ start_refusal plan.now (state_of shard kept.now) request.now.id (asked request.now) }
+fn start_refusal(
+    plan: &Plan,
+    shard: Shard,
+    parts: &ServerParts,
+    request: &Request,
+) -> Option<Handled>
+    requires { IsIdle parts.now }
+    ensures answer { result ≡ start_refusal plan.now (state_of shard parts.now) request.now.id (asked request.now) }
     ensures fits { result ≡ None → IsCallOf plan.now (asked request.now) }
 {
-    let is_new = find_group(&kept.started, request.id, request.group).is_none();
-    if is_new && kept.marks.is_ended(request.id) {
+    let is_new = find_group(parts.groups.started(), request.id, request.group).is_none();
+    if is_new && parts.lists.is_ended(request.id) {
         return Some(Handled::Gone);
     }
-    match start_fault(plan, shard, kept, request, is_new) {
+    match start_fault(plan, shard, parts, request, is_new) {
         Some(reason) => Some(Handled::Ignored(reason)),
         None => None,
     }
@@ -163,12 +136,13 @@ fn start_refusal(plan: &Plan, shard: Shard, kept: &ServerData, request: &Request
 fn start_fault(
     plan: &Plan,
     shard: Shard,
-    kept: &ServerData,
+    parts: &ServerParts,
     request: &Request,
     is_new: bool,
 ) -> Option<Reason>
-    requires { is_new ≡ is_none (find_group request.now.id request.now.group kept.now.started.groups) }
-    ensures reason { result ≡ start_fault plan.now (state_of shard kept.now) request.now.id (asked request.now) }
+    requires idle { IsIdle parts.now }
+    requires new { is_new ≡ is_none (find_group request.now.id request.now.group parts.now.groups.kept) }
+    ensures reason { result ≡ start_fault plan.now (state_of shard parts.now) request.now.id (asked request.now) }
     ensures fits { result ≡ None → IsCallOf plan.now (asked request.now) }
 {
     let (id, proc, group) = (request.id, request.proc, request.group);
@@ -184,10 +158,10 @@ fn start_fault(
     if plan.shard_of(plan.place(proc, group, &request.known)) != shard {
         return Some(Reason::NotHere);
     }
-    if is_new && kept.table.list(id).is_some() {
+    if is_new && parts.lists.table().list(id).is_some() {
         return Some(Reason::Late);
     }
-    if differs(&kept.started, id, proc, &request.known.args) {
+    if differs(parts.groups.started(), id, proc, &request.known.args) {
         return Some(Reason::Differs);
     }
     None

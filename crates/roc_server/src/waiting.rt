@@ -5,7 +5,7 @@ ghost use Rattle.roc_step.specs.Fits.{AreGroupsOf};
 ghost use Rattle.roc_step.specs.Waiting.{is_waiting, waiting_of};
 
 use crate::StartedGroup;
-use crate::server_data::ServerData;
+use crate::parts::ServerParts;
 use roc_base::NoMemory;
 use roc_plan::Plan;
 use roc_sequence::Sequence;
@@ -18,14 +18,14 @@ use std::alloc::Global;
 pub(crate) fn all_waiting(
     alloc: Global,
     plan: &Plan,
-    kept: &ServerData,
+    parts: &ServerParts,
 ) -> Result<Vec<Waiting>, NoMemory>
-    requires { AreGroupsOf plan.now kept.now.started.groups }
-    ensures { IfOk result (λ groups. groups.items ≡ map waiting_of (filter (is_waiting plan.now kept.now.table.decided) kept.now.started.groups)) }
+    requires { AreGroupsOf plan.now parts.now.groups.ran }
+    ensures { IfOk result (λ groups. groups.items ≡ map waiting_of (filter (is_waiting plan.now parts.now.lists.decided) parts.now.groups.ran)) }
 {
     let mut groups = Vec::new(alloc);
-    for group in kept.started.as_slice() {
-        if is_waiting(plan, &kept.table, group) {
+    for group in parts.groups.started().as_slice() {
+        if is_waiting(plan, parts.lists.table(), group) {
             push_waiting(alloc, group, &mut groups)?;
         }
     }

@@ -6,38 +6,37 @@ use Rattle.roc_msg.specs.Outbox.{Collected}
 use Rattle.roc_plan.specs.Groups.{Plan}
 use Rattle.roc_server.specs.declared.ahead.Ahead.{Ahead}
 use Rattle.roc_server.specs.declared.ahead.Outcome.{Outcome}
+use Rattle.roc_server.specs.declared.parts.ServerParts.{ServerParts}
 use Rattle.roc_step.specs.declared.handled.Handled.{Handled}
-use Rattle.roc_server.specs.declared.server_data.ServerData.{ServerData}
 use Rattle.roc_server_reads.specs.declared.views.Views.{Views}
 use Rattle.roc_server_reads.specs.Views.{viewing_of, viewing_then, HasRoomToCount}
 use Rattle.roc_step.specs.Reads.{AnswersReads, ReadStep}
 use Rattle.roc_server.specs.State.{MadeAhead, Serving}
 use Rattle.roc_step.specs.State.{ServerState, ServerStep, Viewing}
 use Rattle.roc_step.specs.Step.{Handles, Shows}
-use Rattle.roc_server.specs.Inner.Planned.{after, before, IsPlanned}
-use Rattle.roc_server.specs.Inner.ServerData.{state_of, IsConsistent}
+use Rattle.roc_server.specs.Inner.Parts.{state_behind, state_of, CanRelease, IsIdle, IsSound}
 
 -- ---- a server, of which something may be made ahead
 
--- what comes of a message, as it was planned
-abbrev pub made_of : Shard → ServerData → Views → Msg → Outcome → MadeAhead
+-- what comes of a message, as it was tried
+abbrev pub made_of : Shard → ServerParts → Views → Msg → Outcome → MadeAhead
 made_of shard k v msg o =
-    record { msg = msg; answer = o.answer; state = after shard k o.change; viewing = viewing_then (viewing_of v) o.answer o.sends.ran o.stays; sends = o.sends }
+    record { msg = msg; answer = o.answer; state = state_behind shard k; viewing = viewing_then (viewing_of v) o.answer o.sends.ran o.stays; sends = o.sends }
 
-abbrev pub made_ahead : Shard → ServerData → Views → Ahead → MadeAhead
+abbrev pub made_ahead : Shard → ServerParts → Views → Ahead → MadeAhead
 made_ahead shard k v made = made_of shard k v made.msg.value made.outcome
 
--- what is kept, less what was tried for what was made ahead
-abbrev pub kept_before : ServerData → Option Ahead → ServerData
-kept_before k None = k
-kept_before k (Some made) = before k made.outcome.change
+abbrev pub serving : Shard → ServerParts → Views → Option Ahead → Serving
+serving shard k v ahead = record { state = state_of shard k; viewing = viewing_of v; ahead = option_map (made_ahead shard k v) ahead }
 
-abbrev pub serving : Shard → ServerData → Views → Option Ahead → Serving
-serving shard k v ahead = record { state = state_of shard (kept_before k ahead); viewing = viewing_of v; ahead = option_map (made_ahead shard k v) ahead }
+-- what was made ahead is tried and can be kept, and where nothing was, nothing is tried
+abbrev pub IsTriedFor : ServerParts → Option Ahead → Type 0
+IsTriedFor k None = IsIdle k
+IsTriedFor k (Some made) = CanRelease k
 
-abbrev pub IsHeld : ServerData → Option Ahead → Type 0
-IsHeld k None = IsConsistent k
-IsHeld k (Some made) = IsPlanned k made.outcome.change
+pub record IsHeld (k : ServerParts) (ahead : Option Ahead) : Type 0 where
+  pub sound : IsSound k
+  pub tried : IsTriedFor k ahead
 
 -- what was made ahead can be counted
 abbrev pub CanCount : Views → Option Ahead → Type 0

@@ -2,17 +2,16 @@
 use Rattle.std.specs.Prelude.{◌≡◌, ◌++◌, ◌∷◌, [], Bool, not, ◌&&◌, ◌==◌, nat_lt, if◌then◌else◌, List, Option, Some, None, is_none, length}
 use Rattle.roc_base.specs.declared.id.TxnId.{TxnId}
 use Rattle.roc_base.specs.declared.node.Shard.{Shard}
-use Rattle.roc_group.specs.GroupRun.{GroupCall, group_run}
+use Rattle.roc_group.specs.GroupRun.{GroupCall, call, group_run}
 use Rattle.roc_msg.specs.Outbox.{Collected}
 use Rattle.roc_depgraph.specs.Deps.{is_known}
 use Rattle.roc_msg.specs.declared.reason.Reason.{Reason}
 use Rattle.roc_msg.specs.declared.reason.Reason.TheVariants.{BadProc, BadGroup, BadInputs, NotHere, Late, Differs}
 use Rattle.roc_plan.specs.Groups.{Plan, groups_of, is_immediate_of, shard_of, group_place}
 use Rattle.roc_step.specs.declared.handled.Handled.{Handled}
-use Rattle.roc_server.specs.declared.server_data.ServerData.{ServerData}
+use Rattle.roc_server.specs.declared.starts.Request.{Request}
+use Rattle.roc_rows.specs.Store.{Store}
 use Rattle.roc_step.specs.declared.started.StartedGroup.{StartedGroup}
-use Rattle.roc_server.specs.Inner.ServerData.{state_of}
-use Rattle.roc_server_index.specs.GroupRefs.{HaveSameRefs}
 use Rattle.roc_step.specs.New.{AreLedTo}
 use Rattle.roc_step.specs.Start.{has_procedure, has_counts, differs, is_immediate_group, edges_for, new_group, start_new, startok_of, after_start}
 use Rattle.roc_step.specs.Runs.{accesses_of}
@@ -40,28 +39,12 @@ start_reasons plan s id c =
 abbrev pub start_fault : Plan → ServerState → TxnId → GroupCall → Option Reason
 start_fault plan s id c = first_reason (start_reasons plan s id c)
 
--- all but the cells is as it was, room aside
-pub record KeepsBeside (old new : ServerData) : Type 0 where
-  pub started : new.started.groups ≡ old.started.groups
-  pub table : new.table ≡ old.table
-  pub waiting : new.waits.waiting ≡ old.waits.waiting
-  pub fetches : new.waits.fetches ≡ old.waits.fetches
-  pub index : HaveSameRefs old.index new.index
-  pub marks : new.marks ≡ old.marks
-  pub taken : new.taken.components ≡ old.taken.components
-
--- e is what is kept of a group that starts, and an immediate one ran
-pub record IsNewGroup (plan : Plan) (shard : Shard) (old new : ServerData) (id : TxnId) (c : GroupCall) (e : StartedGroup) : Type 0 where
+-- e is what is kept of a group that starts, and an immediate one ran: the cells then
+pub record IsNewGroup (plan : Plan) (decided : List TxnId) (s : ServerState) (store : Store) (id : TxnId) (c : GroupCall) (e : StartedGroup) : Type 0 where
   pub reached : List TxnId
-  pub led : AreLedTo old.table.links (edges_for plan old.table.decided (state_of shard old) id c) reached
-  pub is : e ≡ new_group plan old.table.decided reached (state_of shard old) id c
-  pub store : new.rows.store ≡ (if is_immediate_group plan c then (group_run plan c old.rows.store).store else old.rows.store)
-  pub started : new.started.groups ≡ old.started.groups
-  pub table : new.table ≡ old.table
-  pub waits : new.waits ≡ old.waits
-  pub index : HaveSameRefs old.index new.index
-  pub marks : new.marks ≡ old.marks
-  pub taken : new.taken ≡ old.taken
+  pub led : AreLedTo s.lists.links (edges_for plan decided s id c) reached
+  pub is : e ≡ new_group plan decided reached s id c
+  pub ran : store ≡ (if is_immediate_group plan c then (group_run plan c s.store).store else s.store)
 
 -- this is told of a group that starts, and one that is immediate ran
 pub record TellsStart (plan : Plan) (shard : Shard) (e : StartedGroup) (before after : Collected) : Type 0 where
@@ -70,13 +53,17 @@ pub record TellsStart (plan : Plan) (shard : Shard) (e : StartedGroup) (before a
   pub ran : after.ran ≡ before.ran ++ accesses_of (if is_immediate_of plan e.proc e.group then e ∷ [] else [])
 
 -- a start was taken, or ignored: the state behind it
-pub record StartTaken (plan : Plan) (shard : Shard) (old : ServerData) (state : ServerState) (before after : Collected) (id : TxnId) (c : GroupCall) (answer : Handled) : Type 0 where
+pub record StartTaken (plan : Plan) (decided : List TxnId) (s state : ServerState) (before after : Collected) (id : TxnId) (c : GroupCall) (answer : Handled) : Type 0 where
   pub reached : List TxnId
-  pub led : AreLedTo old.table.links (edges_of_new plan old.table.decided (state_of shard old) id c) reached
-  pub shown : ShowsStep (after_start plan old.table.decided reached (state_of shard old) id c) answer state before after
+  pub led : AreLedTo s.lists.links (edges_of_new plan decided s id c) reached
+  pub shown : ShowsStep (after_start plan decided reached s id c) answer state before after
 
 -- a new group started
-pub record StartsNew (plan : Plan) (shard : Shard) (old : ServerData) (state : ServerState) (before after : Collected) (id : TxnId) (c : GroupCall) (answer : Handled) : Type 0 where
+pub record StartsNew (plan : Plan) (decided : List TxnId) (s state : ServerState) (before after : Collected) (id : TxnId) (c : GroupCall) (answer : Handled) : Type 0 where
   pub reached : List TxnId
-  pub led : AreLedTo old.table.links (edges_for plan old.table.decided (state_of shard old) id c) reached
-  pub shown : ShowsStep (start_new plan (state_of shard old) c (new_group plan old.table.decided reached (state_of shard old) id c)) answer state before after
+  pub led : AreLedTo s.lists.links (edges_for plan decided s id c) reached
+  pub shown : ShowsStep (start_new plan s c (new_group plan decided reached s id c)) answer state before after
+
+-- the call that a request asks for
+abbrev pub asked : Request → GroupCall
+asked r = call r.proc r.group r.known.args r.known.inputs

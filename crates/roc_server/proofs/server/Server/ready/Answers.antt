@@ -11,7 +11,7 @@ returns-clause-answer c =
     subst (λ (v : Serving). (r : ServerStep) × Handles c.args.plan.now v.state c.args.msg.now r × (r.answer ≡ c.in-Ok.handled)) c.self.view_is c.in-Ok.ensures.answer
 
 pub returns-clause-room : goal.returns-clause-room
-returns-clause-room c = room_when_ready (serving c.self.inside.shard c.ready.new.kept c.ready.new.views c.ready.new.ahead) c.ready.new.outbox c.args.msg.now c.in-Ok.ensures.ready
+returns-clause-room c = room_when_ready (serving c.self.inside.shard c.ready.new.parts c.ready.new.views c.ready.new.ahead) c.ready.new.outbox c.args.msg.now c.in-Ok.ensures.ready
 
 pub returns-clause-takes : goal.returns-clause-takes
-returns-clause-takes c = room_to_take (serving c.self.inside.shard c.ready.new.kept c.ready.new.views c.ready.new.ahead) c.ready.new.outbox c.args.msg.now c.in-Ok.ensures.ready
+returns-clause-takes c = room_to_take (serving c.self.inside.shard c.ready.new.parts c.ready.new.views c.ready.new.ahead) c.ready.new.outbox c.args.msg.now c.in-Ok.ensures.ready

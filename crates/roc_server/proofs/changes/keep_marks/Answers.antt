@@ -1,5 +1,0 @@
-use Rattle.roc_server.proofs.SettledSteps.{marks_heard}
-use Rattle.roc_server.proofs.changes.keep_marks.Goals as goal
-
-pub forget_if_over-requires : goal.forget_if_over-requires
-forget_if_over-requires c = marks_heard c.args.kept.now c.args.heard c.deref.result.now c.requires c.deref.ensures.value

@@ -1,0 +1,29 @@
+use Rattle.std.proofs.Common.{◌≡◌, ◌∙◌, sym, subst}
+use Rattle.std.proofs.lemmas.Result.{IfOk-weaker}
+use Rattle.roc_sequence.specs.Places.{NoneTwice}
+use Rattle.roc_server_groups.specs.Groups.{is_same_group}
+use Rattle.roc_server_groups.specs.Indexed.{IsIndexOf}
+use Rattle.roc_server_reads.specs.Views.{viewing_of}
+use Rattle.roc_server.specs.Inner.Answering.{left_behind}
+use Rattle.roc_server.proofs.ReadsBefore.{index_now}
+use Rattle.roc_server.proofs.ReadSteps.{planned_so}
+use Rattle.roc_server.proofs.reads.answer_reads.Goals as goal
+
+pub new-behind-requires-clause-once : goal.new-behind-requires-clause-once
+new-behind-requires-clause-once c = subst (NoneTwice is_same_group) (sym c.started.ensures.groups) c.started.ensures.once
+
+pub new-behind-requires-clause-refs : goal.new-behind-requires-clause-refs
+new-behind-requires-clause-refs c =
+    subst (λ es. IsIndexOf c.index.result.now c.table.result.now.decided es) (sym c.started.ensures.groups)
+    (subst (λ ids. IsIndexOf c.index.result.now ids c.args.parts.now.groups.ran) (sym c.table.ensures.decided)
+    (subst (λ index. IsIndexOf index c.args.parts.now.lists.decided c.args.parts.now.groups.ran) (sym c.index.ensures) (index_now c.args.parts.now c.requires.sound)))
+
+pub returns-clause-step : goal.returns-clause-step
+returns-clause-step c =
+    let k = c.args.parts.now in
+    let is : c.new-behind.result ≡ left_behind k =
+    c.new-behind.ensures
+    ∙ (λ i. record { store = k.rows.store; decided = c.table.ensures.decided i; newly = c.newly.ensures i; started = c.started.ensures.groups i; starting = c.starting.ensures i }) in
+    IfOk-weaker c.plan_reads.result _ _
+    (λ stays planned. planned_so c.args.plan.now c.args.shard k c.requires.sound (viewing_of c.args.views.now) c.args.msg.now c.args.answer c.args.sends.now c.plan_reads.new.sends stays c.new-behind.result is planned)
+    c.plan_reads.ensures.step
