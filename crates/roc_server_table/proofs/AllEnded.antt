@@ -9,7 +9,8 @@ use Rattle.roc_base.proofs.Ids.{is_listed-any, is_txn-swap}
 use Rattle.roc_base.specs.Edge.{Dependency}
 use Rattle.roc_depgraph.specs.declared.known.KnownList.{KnownList}
 use Rattle.roc_step.specs.Links.{without_links}
-use Rattle.roc_server_table.specs.Inner.Changes.{all_ended, ended, KeptLists}
+use Rattle.roc_server_rows.specs.Changes.{lists_ended, RowLists}
+use Rattle.roc_server_table.specs.Inner.Changes.{all_ended}
 
 -- one more of them
 pub listed_more : (ids : List TxnId) (t u : TxnId) → is_listed is_txn (ids ++ t ∷ []) u ≡ (is_listed is_txn ids u || is_txn u t)
@@ -62,7 +63,7 @@ left_both p q r h (k ∷ ks) = go (q k.of) (r k.of) (p k.of) refl (h k.of) (left
         ∙ (ap (λ l. without_links p k ∷ l) i ∙ sym (ap (λ b. map (without_links p) (cond (not b) (k ∷ filter (λ l. not (p l.of)) ks) (filter (λ l. not (p l.of)) ks))) e)))
 
 -- of none
-pub none_ended : (k : KeptLists) → k ≡ all_ended [] k
+pub none_ended : (k : RowLists) → k ≡ all_ended [] k
 none_ended k = λ i. record { known = sym (all_pass k.known) i; links = sym (links_pass k.links) i }
   where
     all_pass : (ks : List KnownList) → filter (λ l. not (is_listed is_txn [] l.of)) ks ≡ ks
@@ -80,7 +81,7 @@ none_ended k = λ i. record { known = sym (all_pass k.known) i; links = sym (lin
         ∙ ap (λ ks. l ∷ ks) (links_pass ls)
 
 -- of one more
-pub one_more_ended : (ids : List TxnId) (t : TxnId) (k : KeptLists) → ended t (all_ended ids k) ≡ all_ended (ids ++ t ∷ []) k
+pub one_more_ended : (ids : List TxnId) (t : TxnId) (k : RowLists) → lists_ended t (all_ended ids k) ≡ all_ended (ids ++ t ∷ []) k
 one_more_ended ids t k = λ i. record { known = known i; links = links i }
   where
     known : filter (λ l. not (is_txn l.of t)) (filter (λ l. not (is_listed is_txn ids l.of)) k.known) ≡ filter (λ l. not (is_listed is_txn (ids ++ t ∷ []) l.of)) k.known
@@ -91,7 +92,7 @@ one_more_ended ids t k = λ i. record { known = known i; links = links i }
     links = left_both (is_listed is_txn (ids ++ t ∷ [])) (is_listed is_txn ids) (λ u. is_txn u t) (λ u. listed_more ids t u) k.links
 
 -- what is left to be ended, one by one
-pub ended_next : (ids : List TxnId) (i : ℕ) (t : TxnId) (k now next : KeptLists) → i < length ids → t ≡ get_or ids i t → now ≡ all_ended (take i ids) k
-    → next ≡ ended t now → next ≡ all_ended (take (i + 1) ids) k
+pub ended_next : (ids : List TxnId) (i : ℕ) (t : TxnId) (k now next : RowLists) → i < length ids → t ≡ get_or ids i t → now ≡ all_ended (take i ids) k
+    → next ≡ lists_ended t now → next ≡ all_ended (take (i + 1) ids) k
 ended_next ids i t k now next below is before e =
-    e ∙ (ap (ended t) before ∙ (one_more_ended (take i ids) t k ∙ ap (λ l. all_ended l k) (sym (take_more ids i t below ∙ ap (λ x. take i ids ++ x ∷ []) (sym is)))))
+    e ∙ (ap (lists_ended t) before ∙ (one_more_ended (take i ids) t k ∙ ap (λ l. all_ended l k) (sym (take_more ids i t below ∙ ap (λ x. take i ids ++ x ∷ []) (sym is)))))

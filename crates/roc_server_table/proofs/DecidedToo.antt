@@ -18,36 +18,36 @@ use Rattle.roc_depgraph.specs.Reach.{direct}
 use Rattle.roc_depgraph.proofs.Laws.{ancestor_decided}
 use Rattle.roc_depgraph.proofs.Listed.{has_listed, listed_has}
 use Rattle.roc_step.specs.New.{AreAllNew}
-use Rattle.roc_server_table.specs.declared.rows.Link.{Link}
-use Rattle.roc_server_table.specs.declared.rows.Row.{Row}
-use Rattle.roc_server_table.specs.declared.rows.Parts.{Parts}
-use Rattle.roc_server_table.specs.declared.marks.Mark.{Mark}
-use Rattle.roc_server_table.specs.Inner.Rows.{row_at, is_alive, is_told, links_of, IsWhole}
-use Rattle.roc_server_table.specs.Inner.Marks.{no_mark, mark_at, is_open, AreMarked, AreOpen, WaitsOn}
+use Rattle.roc_server_rows.specs.declared.rows.Link.{Link}
+use Rattle.roc_server_rows.specs.declared.rows.Row.{Row}
+use Rattle.roc_server_rows.specs.declared.rows.Parts.{Parts}
+use Rattle.roc_server_rows.specs.declared.marks.Mark.{Mark}
+use Rattle.roc_server_rows.specs.Rows.{row_in, is_alive, is_told, row_links, AreWhole}
+use Rattle.roc_server_rows.specs.Marks.{no_mark, mark_in, is_open, AreMarked, AreOpen, WaitsOn}
 use Rattle.roc_server_table.specs.Inner.Kept.{decided_of, AreDecidedToo, IsDecidedAt, IsKept}
-use Rattle.roc_server_table.proofs.Alive.{numbers_differ, alive_live, row_within}
+use Rattle.roc_server_rows.proofs.Alive.{numbers_differ, alive_live, row_within}
 use Rattle.roc_server_table.proofs.DecidedIds.{decided_at, decided_listed, listed_decided, mark_within}
-use Rattle.roc_server_table.proofs.OpenRows.{open_fewer}
-use Rattle.roc_server_table.proofs.DecidedRows.{closed_decided, link_named, waits_undecided}
+use Rattle.roc_server_rows.proofs.OpenRows.{open_fewer}
+use Rattle.roc_server_rows.proofs.DecidedRows.{closed_decided, link_named, waits_undecided}
 use Rattle.roc_server_table.proofs.KnownRows.{absent_links_known, links_told}
 
 -- ---- one row is marked
 
 module _ (at : ℕ) (ms : List Mark) (within : at < length ms) where
   abbrev too : Mark
-  too = record { decided = true; waits = (mark_at ms at).waits }
+  too = record { decided = true; waits = (mark_in ms at).waits }
 
-  own : mark_at (set ms at too) at ≡ too
+  own : mark_in (set ms at too) at ≡ too
   own = get_or-set_same ms at too no_mark within
 
-  other : (n : ℕ) → n ≢ at → mark_at (set ms at too) n ≡ mark_at ms n
+  other : (n : ℕ) → n ≢ at → mark_in (set ms at too) n ≡ mark_in ms n
   other n d = get_or-set_other ms at n too no_mark d
 
-  pub set_decided : IsDecidedAt at ms (set ms at (record { decided = true; waits = (mark_at ms at).waits }))
+  pub set_decided : IsDecidedAt at ms (set ms at (record { decided = true; waits = (mark_in ms at).waits }))
   set_decided =
       record {
         waits = λ n. elim (numbers_differ n at) [
-          | inl e ↦ subst (λ j. (mark_at (set ms at too) j).waits ≡ (mark_at ms j).waits) (sym e) (ap (λ (m : Mark). m.waits) own)
+          | inl e ↦ subst (λ j. (mark_in (set ms at too) j).waits ≡ (mark_in ms j).waits) (sym e) (ap (λ (m : Mark). m.waits) own)
           | inr d ↦ ap (λ (m : Mark). m.waits) (other n d)
         ];
         own = λ h. ap (λ (m : Mark). m.decided) own;
@@ -76,13 +76,13 @@ module _ (numbers : List (TxnId × ℕ)) where
         each = each;
         waits = d.waits;
         stay = λ n h. elim (numbers_differ n at) [
-          | inl e ↦ subst (λ j. (mark_at new j).decided ≡ true) (sym e) (d.own (mark_within old at (ap (λ j. (mark_at old j).decided) (sym e) ∙ h)))
+          | inl e ↦ subst (λ j. (mark_in new j).decided ≡ true) (sym e) (d.own (mark_within old at (ap (λ j. (mark_in old j).decided) (sym e) ∙ h)))
           | inr x ↦ d.others n x ∙ h
         ];
         too = λ t n h here w.
             let two : Some at ≡ Some n = sym there ∙ (ap (λ q. lookup (is_txn q) numbers) (sym (has_one t id h)) ∙ here) in
             let one : at ≡ n = cc in
-            subst (λ j. (mark_at new j).decided ≡ true) one (d.own (omega (arith, one, w)));
+            subst (λ j. (mark_in new j).decided ≡ true) one (d.own (omega (arith, one, w)));
         only = λ n h. elim (numbers_differ n at) [
           | inl e ↦ inr (id, inl refl, there ∙ ap Some (sym e))
           | inr x ↦ inl (sym (d.others n x) ∙ h)
@@ -113,7 +113,7 @@ module _ (numbers : List (TxnId × ℕ)) where
 
 -- ---- all that the links decide newly
 
-module _ (p : Parts) (marks marks2 : List Mark) (ids : List TxnId) (k : IsKept p marks) (new : AreAllNew (IsListed is_txn (decided_of p.rows.items marks)) (links_of p.rows.items) ids)
+module _ (p : Parts) (marks marks2 : List Mark) (ids : List TxnId) (k : IsKept p marks) (new : AreAllNew (IsListed is_txn (decided_of p.rows.items marks)) (row_links p.rows.items) ids)
     (too : AreDecidedToo p.numbers.entries ids marks marks2) where
   abbrev numbers : List (TxnId × ℕ)
   numbers = p.numbers.entries
@@ -122,48 +122,48 @@ module _ (p : Parts) (marks marks2 : List Mark) (ids : List TxnId) (k : IsKept p
   rows = p.rows.items
 
   abbrev id_at : ℕ → TxnId
-  id_at n = (row_at rows n).id
+  id_at n = (row_in rows n).id
 
-  new_decided : (t : TxnId) → Has t ids → IsDecided (links_of rows) t
+  new_decided : (t : TxnId) → Has t ids → IsDecided (row_links rows) t
   new_decided t h = (new.only t (has_listed ids t h)).0
 
-  was_decided : (n : ℕ) → (mark_at marks n).decided ≡ true → IsDecided (links_of rows) (id_at n)
-  was_decided n d = closed_decided numbers rows p.stamp k.whole (λ j. (mark_at marks j).decided ≡ true) k.marked.decided_told k.marked.closed n d
+  was_decided : (n : ℕ) → (mark_in marks n).decided ≡ true → IsDecided (row_links rows) (id_at n)
+  was_decided n d = closed_decided numbers rows p.stamp k.whole (λ j. (mark_in marks j).decided ≡ true) k.marked.decided_told k.marked.closed n d
 
-  is_decided : (n : ℕ) → (mark_at marks2 n).decided ≡ true → IsDecided (links_of rows) (id_at n)
+  is_decided : (n : ℕ) → (mark_in marks2 n).decided ≡ true → IsDecided (row_links rows) (id_at n)
   is_decided n d = elim (too.only n d) [
     | inl was ↦ was_decided n was
-    | inr w ↦ subst (IsDecided (links_of rows)) (sym (k.whole.found w.0 n w.2).is) (new_decided w.0 w.1)
+    | inr w ↦ subst (IsDecided (row_links rows)) (sym (k.whole.found w.0 n w.2).is) (new_decided w.0 w.1)
   ]
 
-  told : (n : ℕ) → (mark_at marks2 n).decided ≡ true → is_told (row_at rows n) ≡ true
+  told : (n : ℕ) → (mark_in marks2 n).decided ≡ true → is_told (row_in rows n) ≡ true
   told n d = elim (too.only n d) [
     | inl was ↦ k.marked.decided_told n was
     | inr w ↦ sym (links_told numbers rows p.stamp k.whole w.0 n w.2) ∙ (new_decided w.0 w.1).own
   ]
 
-  free : (n : ℕ) → (mark_at marks2 n).decided ≡ true → (mark_at marks n).waits.birth ≡ 0
-  free n d = go (nat_lt 0 (mark_at marks n).waits.birth) refl
+  free : (n : ℕ) → (mark_in marks2 n).decided ≡ true → (mark_in marks n).waits.birth ≡ 0
+  free n d = go (nat_lt 0 (mark_in marks n).waits.birth) refl
     where
-      go : (b : Bool) → nat_lt 0 (mark_at marks n).waits.birth ≡ b → (mark_at marks n).waits.birth ≡ 0
+      go : (b : Bool) → nat_lt 0 (mark_in marks n).waits.birth ≡ b → (mark_in marks n).waits.birth ≡ 0
       go true e =
-          let some : 0 < (mark_at marks n).waits.birth = grind (arith, nat_tests) in
-          absurd (waits_undecided numbers rows p.stamp k.whole n (mark_at marks n).waits (k.marked.waits n some) (is_decided n d))
+          let some : 0 < (mark_in marks n).waits.birth = grind (arith, nat_tests) in
+          absurd (waits_undecided numbers rows p.stamp k.whole n (mark_in marks n).waits (k.marked.waits n some) (is_decided n d))
       go false e = grind (arith, nat_tests)
 
-  closed : (n : ℕ) → (mark_at marks2 n).decided ≡ true → (l : Link) → Has l (row_at rows n).names → is_alive rows l ≡ true → (mark_at marks2 l.at).decided ≡ true
-  closed n d l has alive = go (mark_at marks l.at).decided refl
+  closed : (n : ℕ) → (mark_in marks2 n).decided ≡ true → (l : Link) → Has l (row_in rows n).names → is_alive rows l ≡ true → (mark_in marks2 l.at).decided ≡ true
+  closed n d l has alive = go (mark_in marks l.at).decided refl
     where
       here : lookup (is_txn (id_at l.at)) numbers ≡ Some l.at
       here = k.whole.each l.at (alive_live rows l alive)
 
-      next : IsDecided (links_of rows) (id_at l.at)
-      next = ancestor_decided (links_of rows) (id_at l.at) (id_at n) (is_decided n d) (direct (link_named numbers rows p.stamp k.whole n (told n d) l has alive))
+      next : IsDecided (row_links rows) (id_at l.at)
+      next = ancestor_decided (row_links rows) (id_at l.at) (id_at n) (is_decided n d) (direct (link_named numbers rows p.stamp k.whole n (told n d) l has alive))
 
       within : l.at < length marks
       within = let row : l.at < length rows = row_within rows l.at (alive_live rows l alive) in omega (arith, row, k.each)
 
-      go : (b : Bool) → (mark_at marks l.at).decided ≡ b → (mark_at marks2 l.at).decided ≡ true
+      go : (b : Bool) → (mark_in marks l.at).decided ≡ b → (mark_in marks2 l.at).decided ≡ true
       go true e = too.stay l.at e
       go false e =
           let unlisted : is_listed is_txn (decided_of rows marks) (id_at l.at) ≡ false = decided_at numbers rows p.stamp k.whole marks k.marked (id_at l.at) l.at here ∙ e in
@@ -179,7 +179,7 @@ module _ (p : Parts) (marks marks2 : List Mark) (ids : List TxnId) (k : IsKept p
         waits = λ n w. subst (WaitsOn rows n) (sym (too.waits n)) (k.marked.waits n (subst (λ (l : Link). 0 < l.birth) (too.waits n) w));
       }
 
-  pub too_kept : (q : Parts) → IsWhole q → q.rows.items ≡ rows → q.undecided.items ≡ filter (is_open rows marks2) p.undecided.items → IsKept q marks2
+  pub too_kept : (q : Parts) → AreWhole q → q.rows.items ≡ rows → q.undecided.items ≡ filter (is_open rows marks2) p.undecided.items → IsKept q marks2
   too_kept q whole same is =
       record {
         whole = whole;
@@ -188,20 +188,20 @@ module _ (p : Parts) (marks marks2 : List Mark) (ids : List TxnId) (k : IsKept p
         undecided = subst (λ (ns : List ℕ). AreOpen q.rows.items marks2 ns) (sym is) (subst (λ (rs : List Row). AreOpen rs marks2 (filter (is_open rows marks2) p.undecided.items)) (sym same) left);
       }
     where
-      was : (n : ℕ) (b : Bool) → (mark_at marks n).decided ≡ b → (mark_at marks2 n).decided ≡ false → (mark_at marks n).decided ≡ false
+      was : (n : ℕ) (b : Bool) → (mark_in marks n).decided ≡ b → (mark_in marks2 n).decided ≡ false → (mark_in marks n).decided ≡ false
       was n true e f = absurd (false≢true (sym f ∙ too.stay n e))
       was n false e f = e
 
-      still : (n : ℕ) → 0 < (mark_at marks2 n).waits.birth → (b : Bool) → (mark_at marks2 n).decided ≡ b → (mark_at marks2 n).decided ≡ false
+      still : (n : ℕ) → 0 < (mark_in marks2 n).waits.birth → (b : Bool) → (mark_in marks2 n).decided ≡ b → (mark_in marks2 n).decided ≡ false
       still n w true e = absurd (let z = free n e in omega (arith, z, ap (λ (l : Link). l.birth) (too.waits n), w))
       still n w false e = e
 
       left : AreOpen rows marks2 (filter (is_open rows marks2) p.undecided.items)
       left =
-          open_fewer rows rows marks marks2 p.undecided.items k.undecided (omega (arith, too.each)) (λ n t. t) (λ n u. was n (mark_at marks n).decided refl u)
+          open_fewer rows rows marks marks2 p.undecided.items k.undecided (omega (arith, too.each)) (λ n t. t) (λ n u. was n (mark_in marks n).decided refl u)
           (λ n w.
           let h = k.undecided.waiting n (subst (λ (l : Link). 0 < l.birth) (too.waits n) w) in
-          (h, (k.undecided.only n h).told, still n w (mark_at marks2 n).decided refl))
+          (h, (k.undecided.only n h).told, still n w (mark_in marks2 n).decided refl))
 
   pub too_decided : (t : TxnId) → is_listed is_txn (decided_of rows marks2) t ≡ is_listed is_txn (decided_of rows marks ++ ids) t
   too_decided t =
@@ -213,7 +213,7 @@ module _ (p : Parts) (marks marks2 : List Mark) (ids : List TxnId) (k : IsKept p
       (λ e. listed_test is_txn (decided_of rows marks2) t
       (back (has_append t (decided_of rows marks) ids (listed_has (decided_of rows marks ++ ids) t (listed_true is_txn (decided_of rows marks ++ ids) t e)))))
     where
-      there : (n : ℕ) → lookup (is_txn t) numbers ≡ Some n → ((mark_at marks n).decided ≡ true) ⊎ ((q : TxnId) × Has q ids × (lookup (is_txn q) numbers ≡ Some n))
+      there : (n : ℕ) → lookup (is_txn t) numbers ≡ Some n → ((mark_in marks n).decided ≡ true) ⊎ ((q : TxnId) × Has q ids × (lookup (is_txn q) numbers ≡ Some n))
           → Has t (decided_of rows marks ++ ids)
       there n here (inl was) =
           let listed : IsListed is_txn (decided_of rows marks) t
@@ -223,7 +223,7 @@ module _ (p : Parts) (marks marks2 : List Mark) (ids : List TxnId) (k : IsKept p
           let same : w.0 ≡ t = sym (k.whole.found w.0 n w.2).is ∙ (k.whole.found t n here).is in
           has_right t (decided_of rows marks) ids (subst (λ q. Has q ids) same w.1)
 
-      marked_listed : (n : ℕ) → lookup (is_txn t) numbers ≡ Some n → (mark_at marks2 n).decided ≡ true → IsListed is_txn (decided_of rows marks2) t
+      marked_listed : (n : ℕ) → lookup (is_txn t) numbers ≡ Some n → (mark_in marks2 n).decided ≡ true → IsListed is_txn (decided_of rows marks2) t
       marked_listed n here d = subst (IsListed is_txn (decided_of rows marks2)) (k.whole.found t n here).is (decided_listed numbers rows p.stamp k.whole marks2 marked n d)
 
       found : Has t ids → (o : Option ℕ) → lookup (is_txn t) numbers ≡ o → IsListed is_txn (decided_of rows marks2) t

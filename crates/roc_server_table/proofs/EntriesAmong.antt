@@ -17,11 +17,11 @@ use Rattle.roc_component.proofs.ListsWithin.{united_within}
 use Rattle.roc_depgraph.specs.declared.known.KnownList.{KnownList}
 use Rattle.roc_depgraph.specs.Deps.{list_of, entries_of}
 use Rattle.roc_step.specs.Links.{without_links}
-use Rattle.roc_server_table.specs.declared.rows.Link.{Link}
-use Rattle.roc_server_table.specs.declared.rows.Row.{Row}
+use Rattle.roc_server_rows.specs.declared.rows.Link.{Link}
+use Rattle.roc_server_rows.specs.declared.rows.Row.{Row}
 use Rattle.roc_server_table.specs.Inner.Among.{among, followed_from, is_skipped, links_past, skipped_at}
-use Rattle.roc_server_table.specs.Inner.LinksBut.{links_but}
-use Rattle.roc_server_table.specs.Inner.Rows.{followed, is_alive, links_of}
+use Rattle.roc_server_rows.specs.LinksBut.{links_but}
+use Rattle.roc_server_rows.specs.Rows.{followed, is_alive, row_links}
 
 -- ---- one entry
 
@@ -155,13 +155,13 @@ entries_past (Some other) ks id = ap (λ (o : Option (List Dependency)). unwrap_
     go None = refl
     go (Some es) = refl
 
-pub links_but_is : (except : Option ℕ) (rows : List Row) → links_past (skipped_at except rows) (links_of rows) ≡ links_but except rows
+pub links_but_is : (except : Option ℕ) (rows : List Row) → links_past (skipped_at except rows) (row_links rows) ≡ links_but except rows
 links_but_is None rows = refl
 links_but_is (Some m) rows = refl
 
 -- what was found of the list of a transaction is what the lists of the ids have of it
 pub edges_kept : (ids : List TxnId) (skipped : Option TxnId) (rows : List Row) (id : TxnId) (from : Option Row) (edges : List Dependency)
-    → edges ≡ among ids skipped (followed_from rows from) → entries_of (links_of rows) id ≡ followed_from rows from
-    → edges ≡ filter (λ d. is_listed is_txn ids d.from) (entries_of (links_past skipped (links_of rows)) id)
+    → edges ≡ among ids skipped (followed_from rows from) → entries_of (row_links rows) id ≡ followed_from rows from
+    → edges ≡ filter (λ d. is_listed is_txn ids d.from) (entries_of (links_past skipped (row_links rows)) id)
 edges_kept ids skipped rows id from edges e f =
-    e ∙ (ap (among ids skipped) (sym f) ∙ ap (filter (λ (d : Dependency). is_listed is_txn ids d.from)) (sym (entries_past skipped (links_of rows) id)))
+    e ∙ (ap (among ids skipped) (sym f) ∙ ap (filter (λ (d : Dependency). is_listed is_txn ids d.from)) (sym (entries_past skipped (row_links rows) id)))

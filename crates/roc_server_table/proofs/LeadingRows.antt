@@ -9,16 +9,16 @@ use Rattle.roc_sequence.proofs.Fronts.{front_more}
 use Rattle.roc_sequence.proofs.Members.{from_has_filter, from_has_map, has_filter, has_map}
 use Rattle.roc_server_reach.specs.Bits.{bit_at, AreSameBits, BitTable, IsColumnCleared, IsEnded, IsPut, IsRowCleared}
 use Rattle.roc_server_reach.proofs.Numbers.{has_named, named_has}
-use Rattle.roc_server_table.specs.declared.rows.Link.{Link}
-use Rattle.roc_server_table.specs.declared.rows.Row.{Row}
-use Rattle.roc_server_table.specs.declared.rows.Parts.{Parts}
-use Rattle.roc_server_table.specs.Inner.Rows.{row_at, is_alive, is_told, Grows, IsWhole}
-use Rattle.roc_server_table.specs.Inner.Except.{is_except, rows_but}
-use Rattle.roc_server_table.specs.Inner.Marks.{IsLearnt, IsOut, IsTakenBack}
+use Rattle.roc_server_rows.specs.declared.rows.Link.{Link}
+use Rattle.roc_server_rows.specs.declared.rows.Row.{Row}
+use Rattle.roc_server_rows.specs.declared.rows.Parts.{Parts}
+use Rattle.roc_server_rows.specs.Rows.{row_in, is_alive, is_told, Grows, AreWhole}
+use Rattle.roc_server_rows.specs.Except.{is_except, rows_but}
+use Rattle.roc_server_rows.specs.Marks.{IsLearnt, IsOut, IsTakenBack}
 use Rattle.roc_server_table.specs.Inner.Leading.{live_numbers, AreBits, LeadsBut, LeadsTo}
-use Rattle.roc_server_table.proofs.Alive.{numbers_differ}
-use Rattle.roc_server_table.proofs.Excepted.{alive_but, but_has, has_but, told_but}
-use Rattle.roc_server_table.proofs.KeptMarks.{born_link}
+use Rattle.roc_server_rows.proofs.Alive.{numbers_differ}
+use Rattle.roc_server_rows.proofs.Excepted.{alive_but, but_has, has_but, told_but}
+use Rattle.roc_server_rows.proofs.KeptMarks.{born_link}
 
 told_turn : (r : Row) → is_told r ≡ true → 0 < r.turn
 told_turn r h = grind (arith, nat_tests)
@@ -46,7 +46,7 @@ live_more rows ls i l old new within is so_far e =
         go false ih = ih
 
 -- a row that leads as it did
-module _ (old new : List Row) (n : ℕ) (row : row_at new n ≡ row_at old n) where
+module _ (old new : List Row) (n : ℕ) (row : row_in new n ≡ row_in old n) where
   pub stays_leading : (m : ℕ) (x : LeadsTo old n m) → is_alive new x.link ≡ true → LeadsTo new n m
   stays_leading m x alive = record { told = ap is_told row ∙ x.told; link = x.link; has = subst (λ (r : Row). Has x.link r.names) (sym row) x.has; alive = alive; is = x.is }
 
@@ -55,28 +55,28 @@ module _ (old new : List Row) (n : ℕ) (row : row_at new n ≡ row_at old n) wh
 
 -- ---- rows come
 
-module _ (p : Parts) (new : List Row) (stamp : ℕ) (t : IsWhole p) (g : Grows p.rows.items new p.stamp stamp) where
+module _ (p : Parts) (new : List Row) (stamp : ℕ) (t : AreWhole p) (g : Grows p.rows.items new p.stamp stamp) where
   abbrev old : List Row
   old = p.rows.items
 
-  born : (n : ℕ) (l : Link) → Has l (row_at old n).names → l.birth < p.stamp
-  born n l has = born_link old p.stamp (row_at old n).edges (row_at old n).names (t.names n) l has
+  born : (n : ℕ) (l : Link) → Has l (row_in old n).names → l.birth < p.stamp
+  born n l has = born_link old p.stamp (row_in old n).edges (row_in old n).names (t.names n) l has
 
   pub grow_bits : (bits : BitTable) → AreBits old bits → AreBits new bits
   grow_bits bits a =
       record {
         only = λ n m b.
             let x = a.only n m b in
-            stays_leading old new n (g.rows n (t.told_live n (told_turn (row_at old n) x.told))) m x (g.links x.link (born n x.link x.has) ∙ x.alive);
+            stays_leading old new n (g.rows n (t.told_live n (told_turn (row_in old n) x.told))) m x (g.links x.link (born n x.link x.has) ∙ x.alive);
         all = λ n m x.
-            let row : row_at new n ≡ row_at old n = g.told n x.told in
-            let has : Has x.link (row_at old n).names = subst (λ (r : Row). Has x.link r.names) row x.has in
+            let row : row_in new n ≡ row_in old n = g.told n x.told in
+            let has : Has x.link (row_in old n).names = subst (λ (r : Row). Has x.link r.names) row x.has in
             a.all n m (was_leading old new n row m x (sym (g.links x.link (born n x.link has)) ∙ x.alive));
       }
 
 -- ---- a row gets its list
 
-module _ (p q : Parts) (at : ℕ) (l : IsLearnt p q at) (t : IsWhole p) where
+module _ (p q : Parts) (at : ℕ) (l : IsLearnt p q at) (t : AreWhole p) where
   abbrev new : List Row
   new = q.rows.items
 
@@ -86,26 +86,26 @@ module _ (p q : Parts) (at : ℕ) (l : IsLearnt p q at) (t : IsWhole p) where
   -- the others lead as they did
   from_mid : (n m : ℕ) → LeadsTo l.mid n m → (n ≢ at) × LeadsTo new n m
   from_mid n m x =
-      let other : n ≢ at = λ e. false≢true (sym l.told.untold ∙ (ap (λ j. is_told (row_at l.mid j)) (sym e) ∙ x.told)) in
+      let other : n ≢ at = λ e. false≢true (sym l.told.untold ∙ (ap (λ j. is_told (row_in l.mid j)) (sym e) ∙ x.told)) in
       (other, stays_leading l.mid new n (l.told.others n other) m x (l.told.links x.link ∙ x.alive))
 
   to_mid : (n m : ℕ) → n ≢ at → LeadsTo new n m → LeadsTo l.mid n m
   to_mid n m d x = was_leading l.mid new n (l.told.others n d) m x (sym (l.told.links x.link) ∙ x.alive)
 
-  live_named : (m : ℕ) → is_listed nat_eq (live_numbers new (row_at new at).names) m ≡ true → LeadsTo new at m
+  live_named : (m : ℕ) → is_listed nat_eq (live_numbers new (row_in new at).names) m ≡ true → LeadsTo new at m
   live_named m h =
-      let names = (row_at new at).names in
+      let names = (row_in new at).names in
       let w = from_has_map (λ (x : Link). x.at) m (filter (is_alive new) names) (named_has (live_numbers new names) m h) in
       let k = from_has_filter (is_alive new) w.0 names w.1 in
       record { told = l.told.told; link = w.0; has = k.0; alive = k.1; is = sym w.2 }
 
-  named_live : (m : ℕ) → LeadsTo new at m → is_listed nat_eq (live_numbers new (row_at new at).names) m ≡ true
+  named_live : (m : ℕ) → LeadsTo new at m → is_listed nat_eq (live_numbers new (row_in new at).names) m ≡ true
   named_live m x =
-      let names = (row_at new at).names in
+      let names = (row_in new at).names in
       has_named (live_numbers new names) m
       (subst (λ j. Has j (live_numbers new names)) x.is (has_map (λ (y : Link). y.at) x.link (filter (is_alive new) names) (has_filter (is_alive new) x.link names x.has x.alive)))
 
-  pub learnt_bits : (bits bits2 : BitTable) → AreBits p.rows.items bits → IsPut at (live_numbers new (row_at new at).names) bits bits2 → AreBits new bits2
+  pub learnt_bits : (bits bits2 : BitTable) → AreBits p.rows.items bits → IsPut at (live_numbers new (row_in new at).names) bits bits2 → AreBits new bits2
   learnt_bits bits bits2 a put =
       let mid = mid_bits bits a in
       record {
@@ -128,7 +128,7 @@ module _ (p q : Parts) (at : ℕ) (l : IsLearnt p q at) (t : IsWhole p) where
             let x = from_mid n m (mid.only n m h) in
             stays_leading new last n (b.others n x.0) m x.1 (b.links x.1.link ∙ x.1.alive);
         all = λ n m x.
-            let other : n ≢ at = λ e. false≢true (sym b.own ∙ (ap (λ j. is_told (row_at last j)) (sym e) ∙ x.told)) in
+            let other : n ≢ at = λ e. false≢true (sym b.own ∙ (ap (λ j. is_told (row_in last j)) (sym e) ∙ x.told)) in
             mid.all n m (to_mid n m other (was_leading new last n (b.others n other) m x (sym (b.links x.link) ∙ x.alive)));
       }
 
@@ -136,7 +136,7 @@ module _ (p q : Parts) (at : ℕ) (l : IsLearnt p q at) (t : IsWhole p) where
 
 module _ (n : ℕ) (old new : List Row) (b : IsTakenBack n old new) where
   back_other : (k m : ℕ) → LeadsTo new k m → k ≢ n
-  back_other k m x e = false≢true (sym b.own ∙ (ap (λ j. is_told (row_at new j)) (sym e) ∙ x.told))
+  back_other k m x e = false≢true (sym b.own ∙ (ap (λ j. is_told (row_in new j)) (sym e) ∙ x.told))
 
   pub back_bits : (bits bits2 : BitTable) → AreBits old bits → IsRowCleared n bits bits2 → AreBits new bits2
   back_bits bits bits2 a cleared =
@@ -154,7 +154,7 @@ module _ (n : ℕ) (old new : List Row) (b : IsTakenBack n old new) where
 
 module _ (n : ℕ) (old new : List Row) (o : IsOut n old new) where
   out_other : (k m : ℕ) → LeadsTo new k m → k ≢ n
-  out_other k m x e = false≢true (sym o.own ∙ (ap (λ j. is_told (row_at new j)) (sym e) ∙ x.told))
+  out_other k m x e = false≢true (sym o.own ∙ (ap (λ j. is_told (row_in new j)) (sym e) ∙ x.told))
 
   out_past : (k m : ℕ) (x : LeadsTo new k m) → x.link.at ≢ n
   out_past k m x e = false≢true (sym (o.dead x.link e) ∙ x.alive)
@@ -181,11 +181,11 @@ module _ (n : ℕ) (old new : List Row) (o : IsOut n old new) where
             ends.others k m d f ∙ a.all k m (out_old k m x);
       }
 
-  pub out_but : is_told (row_at old n) ≡ false → LeadsBut n old new
+  pub out_but : is_told (row_in old n) ≡ false → LeadsBut n old new
   out_but untold =
       record {
         only = λ k m x. (λ e. out_past k m x (x.is ∙ e), out_old k m x);
-        all = λ k m f x. out_new k m (λ e. false≢true (sym untold ∙ (ap (λ j. is_told (row_at old j)) (sym e) ∙ x.told))) f x;
+        all = λ k m f x. out_new k m (λ e. false≢true (sym untold ∙ (ap (λ j. is_told (row_in old j)) (sym e) ∙ x.told))) f x;
       }
 
 -- ---- the links to a row are done

@@ -26,12 +26,12 @@ use Rattle.roc_server_reach.specs.Least.{AreLeastIds}
 use Rattle.roc_server_reach.proofs.LeastOf.{least_same}
 use Rattle.roc_server_reach.specs.Bits.{bit_at, itself, onward, AreReached, BitTable, LeadsBy}
 use Rattle.roc_server_reach.proofs.Chains.{chain_before as bits_before}
-use Rattle.roc_server_table.specs.declared.rows.Row.{Row}
-use Rattle.roc_server_table.specs.declared.rows.Parts.{Parts}
-use Rattle.roc_server_table.specs.Inner.Rows.{row_at, is_told, links_of, IsWhole}
+use Rattle.roc_server_rows.specs.declared.rows.Row.{Row}
+use Rattle.roc_server_rows.specs.declared.rows.Parts.{Parts}
+use Rattle.roc_server_rows.specs.Rows.{row_in, is_told, row_links, AreWhole}
 use Rattle.roc_server_table.specs.Inner.Leading.{start_of, starts_of, told_ids, AreBits}
-use Rattle.roc_server_table.proofs.Alive.{alive_live}
-use Rattle.roc_server_table.proofs.DecidedRows.{link_named, named_link}
+use Rattle.roc_server_rows.proofs.Alive.{alive_live}
+use Rattle.roc_server_rows.proofs.DecidedRows.{link_named, named_link}
 use Rattle.roc_server_table.proofs.KnownRows.{absent_links_known, links_told}
 
 -- ---- where entries start
@@ -81,7 +81,7 @@ preceded_known known u t p = go (list_of t known) p
 
 -- ---- rows and bits
 
-module _ (p : Parts) (t : IsWhole p) (bits : BitTable) (a : AreBits p.rows.items bits) where
+module _ (p : Parts) (t : AreWhole p) (bits : BitTable) (a : AreBits p.rows.items bits) where
   abbrev numbers : List (TxnId × ℕ)
   numbers = p.numbers.entries
 
@@ -89,10 +89,10 @@ module _ (p : Parts) (t : IsWhole p) (bits : BitTable) (a : AreBits p.rows.items
   rows = p.rows.items
 
   abbrev id_at : ℕ → TxnId
-  id_at n = (row_at rows n).id
+  id_at n = (row_in rows n).id
 
   abbrev Before : TxnId → TxnId → Type 0
-  Before = Precedes (links_of rows)
+  Before = Precedes (row_links rows)
 
   edge_of : (n m : ℕ) → bit_at bits n m ≡ true → Before (id_at m) (id_at n)
   edge_of n m b =
@@ -106,7 +106,7 @@ module _ (p : Parts) (t : IsWhole p) (bits : BitTable) (a : AreBits p.rows.items
   -- the row of what precedes that of a row
   next_row : (u v : TxnId) (n : ℕ) → lookup (is_txn v) numbers ≡ Some n → Before u v → (m : ℕ) × (lookup (is_txn u) numbers ≡ Some m) × (bit_at bits n m ≡ true)
   next_row u v n here e =
-      let told : is_told (row_at rows n) ≡ true = sym (links_told numbers rows p.stamp t v n here) ∙ preceded_known (links_of rows) u v e in
+      let told : is_told (row_in rows n) ≡ true = sym (links_told numbers rows p.stamp t v n here) ∙ preceded_known (row_links rows) u v e in
       let w = named_link numbers rows p.stamp t n told u (subst (Before u) (sym (t.found v n here).is) e) in
       let own : lookup (is_txn u) numbers ≡ Some w.0.at = ap (λ q. lookup (is_txn q) numbers) (sym w.3) ∙ t.each w.0.at (alive_live rows w.0 w.2) in
       (w.0.at, own, a.all n w.0.at (record { told = told; link = w.0; has = w.1; alive = w.2; is = refl }))
@@ -118,30 +118,30 @@ module _ (p : Parts) (t : IsWhole p) (bits : BitTable) (a : AreBits p.rows.items
       let k = rows_of u s r w.0 w.1 in
       (k.0, k.1, bits_before bits n w.0 k.0 w.2 k.2)
 
-  row_known : (u : TxnId) → IsKnown (links_of rows) u → (o : Option ℕ) → lookup (is_txn u) numbers ≡ o → (m : ℕ) × (lookup (is_txn u) numbers ≡ Some m)
+  row_known : (u : TxnId) → IsKnown (row_links rows) u → (o : Option ℕ) → lookup (is_txn u) numbers ≡ o → (m : ℕ) × (lookup (is_txn u) numbers ≡ Some m)
   row_known u known None e = absurd (false≢true (sym (absent_links_known numbers rows p.stamp t u e) ∙ known))
   row_known u known (Some m) e = (m, e)
 
   -- the row of what reaches another, or is it
-  start_row : (u v : TxnId) → IsKnown (links_of rows) u → ReachesOrIs Before u v → (n : ℕ) × (lookup (is_txn v) numbers ≡ Some n)
+  start_row : (u v : TxnId) → IsKnown (row_links rows) u → ReachesOrIs Before u v → (n : ℕ) × (lookup (is_txn v) numbers ≡ Some n)
   start_row u v known (inl e) = let w = row_known u known (lookup (is_txn u) numbers) refl in (w.0, ap (λ q. lookup (is_txn q) numbers) (sym e) ∙ w.1)
   start_row u v known (inr r) = row_known v (ends_known u v r) (lookup (is_txn v) numbers) refl
     where
-      ends_known : (x y : TxnId) → Reaches Before x y → IsKnown (links_of rows) y
-      ends_known x y (direct e) = preceded_known (links_of rows) x y e
-      ends_known x y (through {s} q e) = preceded_known (links_of rows) s y e
+      ends_known : (x y : TxnId) → Reaches Before x y → IsKnown (row_links rows) y
+      ends_known x y (direct e) = preceded_known (row_links rows) x y e
+      ends_known x y (through {s} q e) = preceded_known (row_links rows) s y e
 
   -- ---- what is reached from entries
 
   module _ (edges : List Dependency) (ns : List ℕ) (r : AreReached bits (starts_of numbers edges) ns) where
-    pub led : (u : TxnId) → IsListed is_txn (told_ids rows ns) u → IsKnownAndLedTo (links_of rows) edges u
+    pub led : (u : TxnId) → IsListed is_txn (told_ids rows ns) u → IsKnownAndLedTo (row_links rows) edges u
     led u l =
-        let w = has_under id_at (filter (λ n. is_told (row_at rows n)) ns) u l in
-        let k = from_has_filter (λ n. is_told (row_at rows n)) w.0 ns w.1 in
+        let w = has_under id_at (filter (λ n. is_told (row_in rows n)) ns) u l in
+        let k = from_has_filter (λ n. is_told (row_in rows n)) w.0 ns w.1 in
         let f = r.only w.0 k.0 in
         let d = has_start numbers edges f.start f.among in
         let here : lookup (is_txn (id_at w.0)) numbers ≡ Some w.0 = t.each w.0 (told_live w.0 k.1) in
-        let known : IsKnown (links_of rows) u = subst (IsKnown (links_of rows)) w.2 (links_told numbers rows p.stamp t (id_at w.0) w.0 here ∙ k.1) in (
+        let known : IsKnown (row_links rows) u = subst (IsKnown (row_links rows)) w.2 (links_told numbers rows p.stamp t (id_at w.0) w.0 here ∙ k.1) in (
           known,
           record {
             entry = d.0;
@@ -150,17 +150,17 @@ module _ (p : Parts) (t : IsWhole p) (bits : BitTable) (a : AreBits p.rows.items
           },
         )
       where
-        told_live : (n : ℕ) → is_told (row_at rows n) ≡ true → 0 < (row_at rows n).birth
-        told_live n h = let turn : 0 < (row_at rows n).turn = grind (arith, nat_tests) in t.told_live n turn
+        told_live : (n : ℕ) → is_told (row_in rows n) ≡ true → 0 < (row_in rows n).birth
+        told_live n h = let turn : 0 < (row_in rows n).turn = grind (arith, nat_tests) in t.told_live n turn
 
-    pub met : (u : TxnId) → IsKnownAndLedTo (links_of rows) edges u → IsListed is_txn (told_ids rows ns) u
+    pub met : (u : TxnId) → IsKnownAndLedTo (row_links rows) edges u → IsListed is_txn (told_ids rows ns) u
     met u (known, l) =
         let s = start_row u l.entry.from known l.from in
         let w = last s.0 s.1 l.from in
         let has : Has w.0 ns = r.all s.0 w.0 (start_has numbers edges l.entry s.0 l.is s.1) w.2 in
-        let told : is_told (row_at rows w.0) ≡ true = sym (links_told numbers rows p.stamp t u w.0 w.1) ∙ known in
+        let told : is_told (row_in rows w.0) ≡ true = sym (links_told numbers rows p.stamp t u w.0 w.1) ∙ known in
         subst (IsListed is_txn (told_ids rows ns)) (t.found u w.0 w.1).is
-        (under_has id_at (filter (λ n. is_told (row_at rows n)) ns) w.0 (has_filter (λ n. is_told (row_at rows n)) w.0 ns has told))
+        (under_has id_at (filter (λ n. is_told (row_in rows n)) ns) w.0 (has_filter (λ n. is_told (row_in rows n)) w.0 ns has told))
       where
         last : (n : ℕ) → lookup (is_txn l.entry.from) numbers ≡ Some n → ReachesOrIs Before u l.entry.from → (m : ℕ) × (lookup (is_txn u) numbers ≡ Some m) × LeadsBy bits n m
         last n here (inl e) = (n, ap (λ q. lookup (is_txn q) numbers) e ∙ here, itself)
@@ -168,8 +168,8 @@ module _ (p : Parts) (t : IsWhole p) (bits : BitTable) (a : AreBits p.rows.items
 
     -- and the least of them
     pub least_led : (ids : List TxnId) → ids ≡ told_ids rows ns → (result : Result (Vec TxnId Global) NoMemory) → IfOk result (λ v. AreLeastIds (IsListed is_txn ids) v.items)
-        → IfOk result (λ v. AreLeastIds (IsKnownAndLedTo (links_of rows) edges) v.items)
+        → IfOk result (λ v. AreLeastIds (IsKnownAndLedTo (row_links rows) edges) v.items)
     least_led ids e (Ok v) h =
-        least_same (IsListed is_txn ids) (IsKnownAndLedTo (links_of rows) edges) (λ u l. led u (subst (λ xs. IsListed is_txn xs u) e l)) (λ u k. subst (λ xs. IsListed is_txn xs u) (sym e) (met u k))
+        least_same (IsListed is_txn ids) (IsKnownAndLedTo (row_links rows) edges) (λ u l. led u (subst (λ xs. IsListed is_txn xs u) e l)) (λ u k. subst (λ xs. IsListed is_txn xs u) (sym e) (met u k))
         v.items h
     least_led ids e (Err f) h = tt

@@ -13,29 +13,30 @@ use Rattle.roc_depgraph.proofs.Listed.{has_under, under_has}
 use Rattle.roc_step.specs.Links.{without_links}
 use Rattle.roc_step.specs.New.{AreAllNew, IsNew}
 use Rattle.roc_step.proofs.SameIds.{ids_without, known_alike}
-use Rattle.roc_server_table.specs.declared.rows.Row.{Row}
-use Rattle.roc_server_table.specs.declared.rows.Parts.{Parts}
-use Rattle.roc_server_table.specs.declared.marks.Mark.{Mark}
-use Rattle.roc_server_table.specs.Inner.Rows.{row_at, is_told, links_of, IsWhole}
-use Rattle.roc_server_table.specs.Inner.LinksBut.{links_but}
-use Rattle.roc_server_table.specs.Inner.Except.{IsExceptLive}
-use Rattle.roc_server_table.specs.Inner.Marks.{mark_at, AreNewRowsBut, AreSameDecided, EachOnce, Settles}
+use Rattle.roc_server_rows.specs.declared.rows.Row.{Row}
+use Rattle.roc_server_rows.specs.declared.rows.Parts.{Parts}
+use Rattle.roc_server_rows.specs.declared.marks.Mark.{Mark}
+use Rattle.roc_server_rows.specs.Rows.{row_in, is_told, row_links, AreWhole}
+use Rattle.roc_server_rows.specs.LinksBut.{links_but}
+use Rattle.roc_server_rows.specs.Except.{IsExceptLive}
+use Rattle.roc_server_rows.specs.Marks.{mark_in, AreNewRowsBut, AreSameDecided, EachOnce}
+use Rattle.roc_server_table.specs.Inner.Kept.{Settles}
 use Rattle.roc_server_table.specs.Inner.Kept.{decided_of, IsKept}
 use Rattle.roc_server_table.proofs.DecidedIds.{decided_at, decided_same, decided_within, listed_decided}
-use Rattle.roc_server_table.proofs.Ended.{absent_links}
+use Rattle.roc_server_rows.proofs.Ended.{absent_links}
 use Rattle.roc_server_table.proofs.KnownRows.{absent_links_known, links_told}
 
 -- ---- links to the row of a transaction are left out
 
-pub but_known : (except : Option ℕ) (rows : List Row) (id : TxnId) → is_known (links_but except rows) id ≡ is_known (links_of rows) id
+pub but_known : (except : Option ℕ) (rows : List Row) (id : TxnId) → is_known (links_but except rows) id ≡ is_known (row_links rows) id
 but_known None rows id = refl
 but_known (Some m) rows id =
-    known_alike (links_of rows) (map (without_links (λ t. is_txn t (row_at rows m).id)) (links_of rows)) (ids_without (λ t. is_txn t (row_at rows m).id) (links_of rows)) id
+    known_alike (row_links rows) (map (without_links (λ t. is_txn t (row_in rows m).id)) (row_links rows)) (ids_without (λ t. is_txn t (row_in rows m).id) (row_links rows)) id
 
-module _ (p : Parts) (whole : IsWhole p) (id : TxnId) where
-  pub found_links : (found : Option ℕ) → found ≡ lookup (is_txn id) p.numbers.entries → links_but found p.rows.items ≡ map (without_links (λ t. is_txn t id)) (links_of p.rows.items)
+module _ (p : Parts) (whole : AreWhole p) (id : TxnId) where
+  pub found_links : (found : Option ℕ) → found ≡ lookup (is_txn id) p.numbers.entries → links_but found p.rows.items ≡ map (without_links (λ t. is_txn t id)) (row_links p.rows.items)
   found_links None e = absent_links p.numbers.entries p.rows.items p.stamp whole id (sym e)
-  found_links (Some m) e = ap (λ q. map (without_links (λ t. is_txn t q)) (links_of p.rows.items)) (whole.found id m (sym e)).is
+  found_links (Some m) e = ap (λ q. map (without_links (λ t. is_txn t q)) (row_links p.rows.items)) (whole.found id m (sym e)).is
 
   pub found_live : (found : Option ℕ) → found ≡ lookup (is_txn id) p.numbers.entries → IsExceptLive found p.rows.items
   found_live None e = tt
@@ -51,15 +52,15 @@ module _ (p : Parts) (marks : List Mark) (k : IsKept p marks) (except : Option �
   numbers = p.numbers.entries
 
   abbrev id_at : ℕ → TxnId
-  id_at n = (row_at rows n).id
+  id_at n = (row_in rows n).id
 
-  live : (n : ℕ) → is_told (row_at rows n) ≡ true → 0 < (row_at rows n).birth
-  live n h = let turn : 0 < (row_at rows n).turn = grind (arith, nat_tests) in k.whole.told_live n turn
+  live : (n : ℕ) → is_told (row_in rows n) ≡ true → 0 < (row_in rows n).birth
+  live n h = let turn : 0 < (row_in rows n).turn = grind (arith, nat_tests) in k.whole.told_live n turn
 
   here : (n : ℕ) → Has n ns → lookup (is_txn (id_at n)) numbers ≡ Some n
   here n h = k.whole.each n (live n (new.only n h).told)
 
-  pub all_new_ids : AreAllNew (IsListed is_txn (decided_of rows marks)) (links_but except rows) (map (λ n. (row_at rows n).id) ns)
+  pub all_new_ids : AreAllNew (IsListed is_txn (decided_of rows marks)) (links_but except rows) (map (λ n. (row_in rows n).id) ns)
   all_new_ids = record { only = only; all = λ t u. all t u (lookup (is_txn t) numbers) refl }
     where
       only : (t : TxnId) → IsListed is_txn (map id_at ns) t → IsNew (IsListed is_txn (decided_of rows marks)) (links_but except rows) t
@@ -71,10 +72,10 @@ module _ (p : Parts) (marks : List Mark) (k : IsKept p marks) (except : Option �
                 let d = listed_decided numbers rows p.stamp k.whole marks k.marked t before in
                 let two : Some d.0 ≡ Some w.0 = sym d.1 ∙ (ap (λ q. lookup (is_txn q) numbers) (sym w.2) ∙ here w.0 w.1) in
                 let one : d.0 ≡ w.0 = cc in
-                false≢true (sym r.undecided ∙ (ap (λ j. (mark_at marks j).decided) (sym one) ∙ d.2)),
+                false≢true (sym r.undecided ∙ (ap (λ j. (mark_in marks j).decided) (sym one) ∙ d.2)),
           )
 
-      undecided : (t : TxnId) (n : ℕ) → lookup (is_txn t) numbers ≡ Some n → ¬ IsListed is_txn (decided_of rows marks) t → (b : Bool) → (mark_at marks n).decided ≡ b → b ≡ false
+      undecided : (t : TxnId) (n : ℕ) → lookup (is_txn t) numbers ≡ Some n → ¬ IsListed is_txn (decided_of rows marks) t → (b : Bool) → (mark_in marks n).decided ≡ b → b ≡ false
       undecided t n there before true e = absurd (before (listed_true is_txn (decided_of rows marks) t (decided_at numbers rows p.stamp k.whole marks k.marked t n there ∙ e)))
       undecided t n there before false e = refl
 
@@ -82,9 +83,9 @@ module _ (p : Parts) (marks : List Mark) (k : IsKept p marks) (except : Option �
       all t u None e = absurd (false≢true (sym (absent_links_known numbers rows p.stamp k.whole t e) ∙ (sym (but_known except rows t) ∙ u.0.own)))
       all t u (Some n) e =
           let is : id_at n ≡ t = (k.whole.found t n e).is in
-          let told : is_told (row_at rows n) ≡ true = sym (links_told numbers rows p.stamp k.whole t n e) ∙ (sym (but_known except rows t) ∙ u.0.own) in
+          let told : is_told (row_in rows n) ≡ true = sym (links_told numbers rows p.stamp k.whole t n e) ∙ (sym (but_known except rows t) ∙ u.0.own) in
           let has : Has n ns
-          = new.all n (record { told = told; undecided = undecided t n e u.1 (mark_at marks n).decided refl; decided = subst (IsDecided (links_but except rows)) (sym is) u.0 }) in
+          = new.all n (record { told = told; undecided = undecided t n e u.1 (mark_in marks n).decided refl; decided = subst (IsDecided (links_but except rows)) (sym is) u.0 }) in
           subst (IsListed is_txn (map id_at ns)) is (under_has id_at ns n has)
 
   once_of : (xs : List ℕ) → EachOnce xs → ((n : ℕ) → Has n xs → lookup (is_txn (id_at n)) numbers ≡ Some n) → NoneTwice is_txn (map id_at xs)
@@ -98,7 +99,7 @@ module _ (p : Parts) (marks : List Mark) (k : IsKept p marks) (except : Option �
     once_of xs once.1 (λ n h. at n (inr h)),
   )
 
-  pub new_once : NoneTwice is_txn (map (λ n. (row_at rows n).id) ns)
+  pub new_once : NoneTwice is_txn (map (λ n. (row_in rows n).id) ns)
   new_once = once_of ns new.once here
 
 -- ---- the same are decided

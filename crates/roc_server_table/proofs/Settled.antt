@@ -1,5 +1,5 @@
 -- The entries that name a transaction are done: its list stays, where it has one, and else its row ends
-use Rattle.std.proofs.Common.{◌≡◌, inl, inr, ℕ, Bool, true, false, not, cond, List, [], ◌∷◌, length, map, filter, Option, Some, None, refl, sym, ap, ◌∙◌, subst, arith}
+use Rattle.std.proofs.Common.{◌≡◌, inl, inr, ℕ, Bool, true, false, not, cond, List, [], ◌∷◌, map, filter, Some, None, refl, sym, ap, ◌∙◌, subst, arith}
 use Rattle.std.proofs.lemmas.Bool.{false≢true}
 use Rattle.std.proofs.lemmas.List.{length-map}
 use Rattle.std.specs.Map.{lookup}
@@ -8,16 +8,18 @@ use Rattle.roc_base.specs.TxnId.{is_txn}
 use Rattle.roc_depgraph.specs.declared.known.KnownList.{KnownList}
 use Rattle.roc_depgraph.specs.Deps.{list_of}
 use Rattle.roc_step.specs.Links.{without_links}
-use Rattle.roc_server_table.specs.declared.rows.Row.{Row}
-use Rattle.roc_server_table.specs.declared.marks.Mark.{Mark}
-use Rattle.roc_server_table.specs.Inner.Changes.{ended, KeptLists}
-use Rattle.roc_server_table.specs.Inner.Rows.{row_at, is_told, followed, in_turn, known_in, links_in, known_of, links_of, lists_of, IsTable}
-use Rattle.roc_server_table.specs.Inner.Except.{row_but, rows_but}
-use Rattle.roc_server_table.specs.Inner.Marks.{mark_at, AreMarked, Drops, EndsAt, IsOut, Settles, WakesAll}
-use Rattle.roc_server_table.proofs.Alive.{numbers_differ}
-use Rattle.roc_server_table.proofs.Looked.{here_list}
-use Rattle.roc_server_table.proofs.Excepted.{known_of_but, links_of_but, row_at_but}
-use Rattle.roc_server_table.proofs.ExceptedMarks.{marked_but, marks_awake}
+use Rattle.roc_server_rows.specs.declared.rows.Row.{Row}
+use Rattle.roc_server_rows.specs.declared.marks.Mark.{Mark}
+use Rattle.roc_server_rows.specs.Changes.{lists_ended, RowLists}
+use Rattle.roc_server_rows.specs.Rows.{row_in, is_told, followed, rows_in_turn, known_in, links_in, known_of, row_links, lists_by, IsRowTable}
+use Rattle.roc_server_rows.specs.Except.{row_but, rows_but}
+use Rattle.roc_server_rows.specs.Marks.{mark_in, AreMarked, EndsAt, WakesAll}
+use Rattle.roc_server_table.specs.Inner.Kept.{Settles}
+use Rattle.roc_server_rows.proofs.Alive.{numbers_differ}
+use Rattle.roc_server_rows.proofs.Looked.{here_list}
+use Rattle.roc_server_rows.proofs.Excepted.{known_of_but, links_of_but, row_at_but}
+use Rattle.roc_server_rows.proofs.EndedRows.{one_found}
+use Rattle.roc_server_rows.proofs.ExceptedMarks.{marked_but, marks_awake}
 
 -- ---- a transaction of which no list is known
 
@@ -40,46 +42,17 @@ module _ (id : TxnId) where
       go true e i = absurd (cc)
       go false e i = i e
 
-  module _ (old new : List Row) (lists : lists_of new ≡ ended id (lists_of old)) (none : list_of id (known_of old) ≡ None) where
+  module _ (old new : List Row) (lists : lists_by new ≡ lists_ended id (lists_by old)) (none : list_of id (known_of old) ≡ None) where
     pub known_stays : known_of new ≡ known_of old
-    known_stays = ap (λ (k : KeptLists). k.known) lists ∙ unlisted_kept (known_of old) none
+    known_stays = ap (λ (k : RowLists). k.known) lists ∙ unlisted_kept (known_of old) none
 
-    pub links_left : links_of new ≡ map (without_links (λ q. is_txn q id)) (links_of old)
+    pub links_left : row_links new ≡ map (without_links (λ q. is_txn q id)) (row_links old)
     links_left =
-        ap (λ (k : KeptLists). k.links) lists ∙ ap (map (without_links (λ q. is_txn q id))) (unlisted_kept (links_of old) (links_unlisted old (in_turn old) none))
-
--- ---- the row that ends, and its mark
-
-none_some : (n : ℕ) (o : Option ℕ) → o ≡ None → ¬ (o ≡ Some n)
-none_some n o e q = let no : None ≡ Some n = sym e ∙ q in absurd (cc)
-
-pub one_found : (m n : ℕ) (o : Option ℕ) → o ≡ Some m → o ≡ Some n → n ≡ m
-one_found m n o e q = let two : Some m ≡ Some n = sym e ∙ q in let one : m ≡ n = cc in sym one
-
-pub ends_at : (found : Option ℕ) (n : ℕ) (old new : List Row) (marks marks2 : List Mark) → found ≡ Some n → length new ≡ length old → IsOut n old new → Drops n marks marks2
-    → EndsAt found old new marks marks2
-ends_at found n old new marks marks2 here each o d =
-    record {
-      each = d.each;
-      rows = each;
-      own = λ k q. ap (λ j. (mark_at marks2 j).decided) (one_found n k found here q) ∙ d.own;
-      decided = λ k none. d.decided k (λ e. none (here ∙ ap Some (sym e)));
-      ids = λ k none. ap (λ (r : Row). r.id) (o.others k (λ e. none (here ∙ ap Some (sym e))));
-    }
-
-pub ends_none : (found : Option ℕ) (old new : List Row) (marks : List Mark) → found ≡ None → new ≡ old → EndsAt found old new marks marks
-ends_none found old new marks absent same =
-    record {
-      each = refl;
-      rows = ap length same;
-      own = λ k q. absurd (none_some k found absent q);
-      decided = λ k none. refl;
-      ids = λ k none. ap (λ (rs : List Row). (row_at rs k).id) same;
-    }
+        ap (λ (k : RowLists). k.links) lists ∙ ap (map (without_links (λ q. is_txn q id))) (unlisted_kept (row_links old) (links_unlisted old (rows_in_turn old) none))
 
 -- ---- all that comes of it
 
-module _ (numbers : List (TxnId × ℕ)) (rows : List Row) (stamp : ℕ) (t : IsTable numbers rows stamp) (id : TxnId) (marks : List Mark) (a : AreMarked rows marks) where
+module _ (numbers : List (TxnId × ℕ)) (rows : List Row) (stamp : ℕ) (t : IsRowTable numbers rows stamp) (id : TxnId) (marks : List Mark) (a : AreMarked rows marks) where
   module _ (at : ℕ) (here : lookup (is_txn id) numbers ≡ Some at) (new : List Row) (marks2 : List Mark) where
     -- it has a list
     pub told_settled : new ≡ rows_but (Some at) rows → WakesAll marks marks2 → Settles id rows new marks marks2
@@ -91,12 +64,12 @@ module _ (numbers : List (TxnId × ℕ)) (rows : List Row) (stamp : ℕ) (t : Is
           each = w.each;
           rows = length-map rows (row_but (Some at));
           known = known_of_but (Some at) rows;
-          links = links_of_but numbers rows stamp t (Some at) row.live ∙ ap (λ q. map (without_links (λ u. is_txn u q)) (links_of rows)) row.is;
+          links = links_of_but numbers rows stamp t (Some at) row.live ∙ ap (λ q. map (without_links (λ u. is_txn u q)) (row_links rows)) row.is;
           decided = record { same = w.same; ids = λ n d. ap (λ (r : Row). r.id) (row_at_but (Some at) rows n) };
         })
 
     -- it has none
-    pub untold_settled : is_told (row_at rows at) ≡ false → AreMarked new marks2 → lists_of new ≡ ended id (lists_of rows) → EndsAt (lookup (is_txn id) numbers) rows new marks marks2
+    pub untold_settled : is_told (row_in rows at) ≡ false → AreMarked new marks2 → lists_by new ≡ lists_ended id (lists_by rows) → EndsAt (lookup (is_txn id) numbers) rows new marks marks2
         → Settles id rows new marks marks2
     untold_settled untold b lists e =
         record {
@@ -109,17 +82,17 @@ module _ (numbers : List (TxnId × ℕ)) (rows : List Row) (stamp : ℕ) (t : Is
         }
       where
         none : list_of id (known_of rows) ≡ None
-        none = here_list numbers rows stamp t id at here ∙ ap (λ b. cond b (Some (row_at rows at).edges) None) untold
+        none = here_list numbers rows stamp t id at here ∙ ap (λ b. cond b (Some (row_in rows at).edges) None) untold
 
-        undecided : (b : Bool) → (mark_at marks at).decided ≡ b → b ≡ false
+        undecided : (b : Bool) → (mark_in marks at).decided ≡ b → b ≡ false
         undecided true q = absurd (false≢true (sym untold ∙ a.decided_told at q))
         undecided false q = refl
 
-        same : (n : ℕ) → (mark_at marks2 n).decided ≡ (mark_at marks n).decided
+        same : (n : ℕ) → (mark_in marks2 n).decided ≡ (mark_in marks n).decided
         same n = elim (numbers_differ n at) [
-          | inl z ↦ e.own n (here ∙ ap Some (sym z)) ∙ sym (ap (λ j. (mark_at marks j).decided) z ∙ undecided (mark_at marks at).decided refl)
+          | inl z ↦ e.own n (here ∙ ap Some (sym z)) ∙ sym (ap (λ j. (mark_in marks j).decided) z ∙ undecided (mark_in marks at).decided refl)
           | inr z ↦ e.decided n (λ q. z (one_found at n (lookup (is_txn id) numbers) here q))
         ]
 
-        ids : (n : ℕ) → (mark_at marks2 n).decided ≡ true → (row_at new n).id ≡ (row_at rows n).id
+        ids : (n : ℕ) → (mark_in marks2 n).decided ≡ true → (row_in new n).id ≡ (row_in rows n).id
         ids n d = e.ids n (λ q. false≢true (sym (e.own n q) ∙ d))

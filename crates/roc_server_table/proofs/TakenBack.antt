@@ -11,16 +11,17 @@ use Rattle.roc_base.specs.TxnId.{is_txn}
 use Rattle.roc_base.proofs.Ids.{is_txn-swap}
 use Rattle.roc_depgraph.specs.declared.known.KnownList.{KnownList}
 use Rattle.roc_depgraph.specs.Deps.{list_of, is_known}
-use Rattle.roc_server_table.specs.declared.rows.Row.{Row}
-use Rattle.roc_server_table.specs.declared.rows.Parts.{Parts}
-use Rattle.roc_server_table.specs.declared.marks.Mark.{Mark}
-use Rattle.roc_server_table.specs.Inner.Changes.{all_untold, untold, KeptLists}
-use Rattle.roc_server_table.specs.Inner.Rows.{row_at, is_told, IsWhole}
-use Rattle.roc_server_table.specs.Inner.Marks.{mark_at, is_open, AreMarked, AreOpen, IsTakenBack, WakesAll}
+use Rattle.roc_server_rows.specs.declared.rows.Row.{Row}
+use Rattle.roc_server_rows.specs.declared.rows.Parts.{Parts}
+use Rattle.roc_server_rows.specs.declared.marks.Mark.{Mark}
+use Rattle.roc_server_rows.specs.Changes.{untold, RowLists}
+use Rattle.roc_server_table.specs.Inner.Changes.{all_untold}
+use Rattle.roc_server_rows.specs.Rows.{row_in, is_told, AreWhole}
+use Rattle.roc_server_rows.specs.Marks.{mark_in, is_open, AreMarked, AreOpen, IsTakenBack, WakesAll}
 use Rattle.roc_server_table.specs.Inner.Kept.{decided_of, IsKept}
 use Rattle.roc_server_table.proofs.AllEnded.{filter_both}
-use Rattle.roc_server_table.proofs.ExceptedMarks.{marks_awake}
-use Rattle.roc_server_table.proofs.OpenRows.{open_awake, open_back}
+use Rattle.roc_server_rows.proofs.ExceptedMarks.{marks_awake}
+use Rattle.roc_server_rows.proofs.OpenRows.{open_awake, open_back}
 use Rattle.roc_server_table.proofs.DecidedIds.{decided_at, decided_within, decided_same}
 
 -- ---- no row waits
@@ -42,18 +43,19 @@ module _ (p : Parts) (marks new : List Mark) (k : IsKept p marks) (w : WakesAll 
 
 -- ---- one list is taken back
 
-module _ (p q : Parts) (marks : List Mark) (k : IsKept p marks) (awake : (n : ℕ) → (mark_at marks n).waits.birth ≡ 0) (id : TxnId) (n : ℕ) (here : lookup (is_txn id) p.numbers.entries ≡ Some n)
-    (undecided : is_listed is_txn (decided_of p.rows.items marks) id ≡ false) (whole : IsWhole q) (b : IsTakenBack n p.rows.items q.rows.items) (each : length q.rows.items ≡ length p.rows.items) where
+module _ (p q : Parts) (marks : List Mark) (k : IsKept p marks) (awake : (n : ℕ) → (mark_in marks n).waits.birth ≡ 0) (id : TxnId) (n : ℕ) (here : lookup (is_txn id) p.numbers.entries ≡ Some n)
+    (undecided : is_listed is_txn (decided_of p.rows.items marks) id ≡ false) (whole : AreWhole q) (b : IsTakenBack n p.rows.items q.rows.items)
+    (each : length q.rows.items ≡ length p.rows.items) where
   abbrev old : List Row
   old = p.rows.items
 
   abbrev new : List Row
   new = q.rows.items
 
-  apart : (m : ℕ) → (mark_at marks m).decided ≡ true → m ≢ n
+  apart : (m : ℕ) → (mark_in marks m).decided ≡ true → m ≢ n
   apart m d e =
-      let own : (mark_at marks n).decided ≡ false = sym (decided_at p.numbers.entries old p.stamp k.whole marks k.marked id n here) ∙ undecided in
-      false≢true (sym own ∙ (ap (λ j. (mark_at marks j).decided) (sym e) ∙ d))
+      let own : (mark_in marks n).decided ≡ false = sym (decided_at p.numbers.entries old p.stamp k.whole marks k.marked id n here) ∙ undecided in
+      false≢true (sym own ∙ (ap (λ j. (mark_in marks j).decided) (sym e) ∙ d))
 
   pub back_kept : q.undecided.items ≡ filter (is_open new marks) p.undecided.items → IsKept q marks
   back_kept left =
@@ -69,8 +71,8 @@ module _ (p q : Parts) (marks : List Mark) (k : IsKept p marks) (awake : (n : �
         undecided = subst (AreOpen new marks) (sym left) (open_back old new marks p.undecided.items k.undecided awake told);
       }
     where
-      told : (m : ℕ) → is_told (row_at new m) ≡ true → is_told (row_at old m) ≡ true
-      told m t = ap is_told (sym (b.others m (λ e. false≢true (sym b.own ∙ (ap (λ j. is_told (row_at new j)) (sym e) ∙ t))))) ∙ t
+      told : (m : ℕ) → is_told (row_in new m) ≡ true → is_told (row_in old m) ≡ true
+      told m t = ap is_told (sym (b.others m (λ e. false≢true (sym b.own ∙ (ap (λ j. is_told (row_in new j)) (sym e) ∙ t))))) ∙ t
 
   pub back_decided : decided_of new marks ≡ decided_of old marks
   back_decided =
@@ -80,9 +82,9 @@ module _ (p q : Parts) (marks : List Mark) (k : IsKept p marks) (awake : (n : �
       (ap (λ (r : Row). r.id) (b.others m (apart m d)), within, omega (arith, within, each)))
 
 -- whether it has a row or not
-module _ (p q : Parts) (marks : List Mark) (k : IsKept p marks) (awake : (n : ℕ) → (mark_at marks n).waits.birth ≡ 0) (id : TxnId)
+module _ (p q : Parts) (marks : List Mark) (k : IsKept p marks) (awake : (n : ℕ) → (mark_in marks n).waits.birth ≡ 0) (id : TxnId)
     (undecided : is_listed is_txn (decided_of p.rows.items marks) id ≡ false)
-    (whole : IsWhole q) (each : length q.rows.items ≡ length p.rows.items)
+    (whole : AreWhole q) (each : length q.rows.items ≡ length p.rows.items)
     (taken : (n : ℕ) → lookup (is_txn id) p.numbers.entries ≡ Some n → IsTakenBack n p.rows.items q.rows.items)
     (same : lookup (is_txn id) p.numbers.entries ≡ None → q.rows.items ≡ p.rows.items) where
   pub untold_kept : q.undecided.items ≡ filter (is_open q.rows.items marks) p.undecided.items → IsKept q marks
@@ -95,7 +97,7 @@ module _ (p q : Parts) (marks : List Mark) (k : IsKept p marks) (awake : (n : �
             marked = subst (λ (rs : List Row). AreMarked rs marks) (sym (same e)) k.marked;
             each = k.each ∙ sym each;
             undecided = subst (AreOpen q.rows.items marks) (sym left)
-                (open_back p.rows.items q.rows.items marks p.undecided.items k.undecided awake (λ m t. ap (λ (rs : List Row). is_told (row_at rs m)) (sym (same e)) ∙ t));
+                (open_back p.rows.items q.rows.items marks p.undecided.items k.undecided awake (λ m t. ap (λ (rs : List Row). is_told (row_in rs m)) (sym (same e)) ∙ t));
           }
       go (Some n) e = back_kept p q marks k awake id n e undecided whole (taken n e) each left
 
@@ -121,20 +123,20 @@ known_more (x ∷ xs) k t = go (is_txn x.of t) (known_more xs k t)
     go true ih = refl
     go false ih = ih
 
-pub none_untold : (k : KeptLists) → k ≡ all_untold [] k
+pub none_untold : (k : RowLists) → k ≡ all_untold [] k
 none_untold k = λ i. record { known = sym (all_pass k.known) i; links = sym (all_pass k.links) i }
   where
     all_pass : (ks : List KnownList) → filter (λ l. not (is_known [] l.of)) ks ≡ ks
     all_pass [] = refl
     all_pass (l ∷ ls) = ap (λ ks. l ∷ ks) (all_pass ls)
 
-one_more_untold : (news : List KnownList) (n : KnownList) (k : KeptLists) → untold n.of (all_untold news k) ≡ all_untold (news ++ n ∷ []) k
+one_more_untold : (news : List KnownList) (n : KnownList) (k : RowLists) → untold n.of (all_untold news k) ≡ all_untold (news ++ n ∷ []) k
 one_more_untold news n k = λ i. record { known = both k.known i; links = both k.links i }
   where
     both : (ks : List KnownList) → filter (λ l. not (is_txn l.of n.of)) (filter (λ l. not (is_known news l.of)) ks) ≡ filter (λ l. not (is_known (news ++ n ∷ []) l.of)) ks
     both ks = filter_both (λ (l : KnownList). is_known (news ++ n ∷ []) l.of) (λ l. is_known news l.of) (λ l. is_txn l.of n.of) (λ l. known_more news n l.of) ks
 
-pub untold_next : (news : List KnownList) (i : ℕ) (n : KnownList) (k now next : KeptLists) → i < length news → n ≡ get_or news i n → now ≡ all_untold (take i news) k → next ≡ untold n.of now
+pub untold_next : (news : List KnownList) (i : ℕ) (n : KnownList) (k now next : RowLists) → i < length news → n ≡ get_or news i n → now ≡ all_untold (take i news) k → next ≡ untold n.of now
     → next ≡ all_untold (take (i + 1) news) k
 untold_next news i n k now next below is before e =
     e ∙ (ap (untold n.of) before ∙ (one_more_untold (take i news) n k ∙ ap (λ l. all_untold l k) (front_more news i n below is)))

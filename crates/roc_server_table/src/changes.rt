@@ -12,19 +12,21 @@ ghost use Rattle.roc_depgraph.specs.Deps.{list_of};
 ghost use Rattle.roc_step.specs.Learning.{AreLearnable};
 ghost use Rattle.roc_step.specs.Links.{without_links};
 ghost use Rattle.roc_step.specs.New.{AreAllNew};
-ghost use Rattle.roc_server_table.specs.Inner.Changes.{all_ended, all_untold, ended, untold, with_list};
-ghost use Rattle.roc_server_table.specs.Inner.Rows.{known_of, links_of, lists_of, Grows};
-ghost use Rattle.roc_server_table.specs.Inner.Marks.{no_mark, mark_at, HasWaiting, IsLearnt, IsOut, IsTakenBack, Wakes};
-ghost use Rattle.roc_server_table.specs.Inner.Leading.{AreKept};
-ghost use Rattle.roc_server_table.specs.Inner.Kept.{decided_of, table_of, AreDecidedToo, IsDecidedAt, IsFilled, IsKept};
+ghost use Rattle.roc_server_rows.specs.Changes.{lists_ended, untold, with_list};
+ghost use Rattle.roc_server_table.specs.Inner.Changes.{all_ended, all_untold};
+ghost use Rattle.roc_server_rows.specs.Rows.{known_of, row_links, lists_by, Grows, AreWhole};
+ghost use Rattle.roc_server_rows.specs.Marks.{no_mark, mark_in, AreMarked, AreOpen, IsLearnt, IsOut, IsTakenBack};
+ghost use Rattle.roc_server_table.specs.Inner.Leading.{AreKept, LeadsBut};
+ghost use Rattle.roc_server_table.specs.Inner.Kept.{decided_of, table_of, AreDecidedToo, IsDecidedAt, IsFilled, IsKept, Settles};
 
 use crate::leading::note_row;
-use crate::marking::{end_marked, settle_at};
-use crate::marks::{Mark, keep_open, mark_of, no_mark, wake, wake_all};
-use crate::rows::{Parts, Row, learn, number_of, untell};
 use roc_base::{Edge, Edges, NoMemory, TxnId};
 use roc_depgraph::KnownList;
 use roc_server_reach::BitRows;
+use roc_server_rows::{
+    Mark, Parts, Row, cut_rows, end_marked, is_told, keep_open, learn, mark_of, no_mark, number_of,
+    open_row, untell, wake_all,
+};
 use std::collections::HashMap;
 
 // ---- lists come
@@ -43,7 +45,7 @@ pub(crate) fn learn_all(
     requires rising { IsStrictlySortedBy txn_cmp done.now }
     ensures kept { AreKept parts.new marks.new.items bits.new }
     ensures known { OnOk result (known_of parts.new.rows.items ≡ known_of parts.old.rows.items ++ news.now) }
-    ensures links { OnOk result (links_of parts.new.rows.items ≡ links_of parts.old.rows.items ++ map (without_links (is_listed is_txn done.now)) news.now) }
+    ensures links { OnOk result (row_links parts.new.rows.items ≡ row_links parts.old.rows.items ++ map (without_links (is_listed is_txn done.now)) news.now) }
     ensures decided { OnOk result (decided_of parts.new.rows.items marks.new.items ≡ decided_of parts.old.rows.items marks.old.items) }
     ensures err { OnErr result (table_of parts.new.rows.items marks.new.items ≡ table_of parts.old.rows.items marks.old.items) }
 {
@@ -70,8 +72,8 @@ fn learn_noted(
     requires unknown { list_of id (known_of parts.old.rows.items) ≡ None }
     requires rising { IsStrictlySortedBy txn_cmp done.now }
     ensures kept { AreKept parts.new marks.new.items bits.new }
-    ensures ok { OnOk result (lists_of parts.new.rows.items ≡ with_list done.now id edges.now (lists_of parts.old.rows.items)) }
-    ensures err { OnErr result (lists_of parts.new.rows.items ≡ lists_of parts.old.rows.items) }
+    ensures ok { OnOk result (lists_by parts.new.rows.items ≡ with_list done.now id edges.now (lists_by parts.old.rows.items)) }
+    ensures err { OnErr result (lists_by parts.new.rows.items ≡ lists_by parts.old.rows.items) }
     ensures decided { decided_of parts.new.rows.items marks.new.items ≡ decided_of parts.old.rows.items marks.old.items }
 {
     match learn_marked(parts, marks, id, edges, done) {
@@ -98,8 +100,8 @@ fn learn_marked(
     requires unknown { list_of id (known_of parts.old.rows.items) ≡ None }
     requires rising { IsStrictlySortedBy txn_cmp done.now }
     ensures kept { IsKept parts.new marks.new.items }
-    ensures ok { OnOk result (lists_of parts.new.rows.items ≡ with_list done.now id edges.now (lists_of parts.old.rows.items)) }
-    ensures err { OnErr result (lists_of parts.new.rows.items ≡ lists_of parts.old.rows.items) }
+    ensures ok { OnOk result (lists_by parts.new.rows.items ≡ with_list done.now id edges.now (lists_by parts.old.rows.items)) }
+    ensures err { OnErr result (lists_by parts.new.rows.items ≡ lists_by parts.old.rows.items) }
     ensures learnt { IfOk result (IsLearnt parts.old parts.new) }
     ensures row { IfOk result (λ at. lookup (is_txn id) parts.new.numbers.entries ≡ Some at) }
     ensures grown { OnErr result (Grows parts.old.rows.items parts.new.rows.items parts.old.stamp parts.new.stamp) }
@@ -136,17 +138,6 @@ fn reserve(
     Ok(())
 }
 
-// A row got a list: it is undecided, and what waited at it is in question.
-fn open_row(marks: &mut [Mark], undecided: &mut Vec<usize>, at: usize)
-    requires room { vec_len undecided.old < vec_capacity undecided.old }
-    requires waiting { HasWaiting marks.old undecided.old.items }
-    ensures undecided { undecided.new.items ≡ undecided.old.items ++ at ∷ [] }
-    ensures wakes { Wakes at marks.old marks.new }
-{
-    wake(marks, undecided.as_slice(), at);
-    undecided.push(at).unwrap();
-}
-
 // Rows that came get marks, where there is room.
 fn fill(marks: &mut Vec<Mark>, rows: &[Row])
     requires room { length rows.now ≤ vec_capacity marks.old }
@@ -178,7 +169,7 @@ pub(crate) fn unlearn_all(
     requires kept { AreKept parts.old marks.old bits.old }
     requires undecided { (k : Known) → Has k news.now → is_listed is_txn (decided_of parts.old.rows.items marks.old) k.of ≡ false }
     ensures kept { AreKept parts.new marks.new bits.new }
-    ensures lists { lists_of parts.new.rows.items ≡ all_untold news.now (lists_of parts.old.rows.items) }
+    ensures lists { lists_by parts.new.rows.items ≡ all_untold news.now (lists_by parts.old.rows.items) }
     ensures decided { decided_of parts.new.rows.items marks.new ≡ decided_of parts.old.rows.items marks.old }
 {
     // What waited may have led over one of these lists.
@@ -189,10 +180,10 @@ pub(crate) fn unlearn_all(
 // Takes lists back, where no row waits.
 fn untell_all(parts: &mut Parts, marks: &[Mark], bits: &mut BitRows, news: &[KnownList])
     requires kept { AreKept parts.old marks.now bits.old }
-    requires awake { (n : ℕ) → (mark_at marks.now n).waits.birth ≡ 0 }
+    requires awake { (n : ℕ) → (mark_in marks.now n).waits.birth ≡ 0 }
     requires undecided { (k : Known) → Has k news.now → is_listed is_txn (decided_of parts.old.rows.items marks.now) k.of ≡ false }
     ensures kept { AreKept parts.new marks.now bits.new }
-    ensures lists { lists_of parts.new.rows.items ≡ all_untold news.now (lists_of parts.old.rows.items) }
+    ensures lists { lists_by parts.new.rows.items ≡ all_untold news.now (lists_by parts.old.rows.items) }
     ensures decided { decided_of parts.new.rows.items marks.now ≡ decided_of parts.old.rows.items marks.now }
 {
     for k in news {
@@ -203,10 +194,10 @@ fn untell_all(parts: &mut Parts, marks: &[Mark], bits: &mut BitRows, news: &[Kno
 // Takes one list back, and what was noted of its row.
 fn untell_noted(parts: &mut Parts, marks: &[Mark], bits: &mut BitRows, id: TxnId)
     requires kept { AreKept parts.old marks.now bits.old }
-    requires awake { (n : ℕ) → (mark_at marks.now n).waits.birth ≡ 0 }
+    requires awake { (n : ℕ) → (mark_in marks.now n).waits.birth ≡ 0 }
     requires undecided { is_listed is_txn (decided_of parts.old.rows.items marks.now) id ≡ false }
     ensures kept { AreKept parts.new marks.now bits.new }
-    ensures lists { lists_of parts.new.rows.items ≡ untold id (lists_of parts.old.rows.items) }
+    ensures lists { lists_by parts.new.rows.items ≡ untold id (lists_by parts.old.rows.items) }
     ensures decided { decided_of parts.new.rows.items marks.now ≡ decided_of parts.old.rows.items marks.now }
 {
     match number_of(&parts.numbers, id) {
@@ -223,7 +214,7 @@ fn unlearn_one(parts: &mut Parts, marks: &mut [Mark], id: TxnId)
     requires kept { IsKept parts.old marks.old }
     requires undecided { is_listed is_txn (decided_of parts.old.rows.items marks.old) id ≡ false }
     ensures kept { IsKept parts.new marks.new }
-    ensures lists { lists_of parts.new.rows.items ≡ untold id (lists_of parts.old.rows.items) }
+    ensures lists { lists_by parts.new.rows.items ≡ untold id (lists_by parts.old.rows.items) }
     ensures decided { decided_of parts.new.rows.items marks.new ≡ decided_of parts.old.rows.items marks.old }
     ensures taken { (n : ℕ) → lookup (is_txn id) parts.old.numbers.entries ≡ Some n → IsTakenBack n parts.old.rows.items parts.new.rows.items }
 {
@@ -233,10 +224,10 @@ fn unlearn_one(parts: &mut Parts, marks: &mut [Mark], id: TxnId)
 
 fn untell_one(parts: &mut Parts, marks: &[Mark], id: TxnId)
     requires kept { IsKept parts.old marks.now }
-    requires awake { (n : ℕ) → (mark_at marks.now n).waits.birth ≡ 0 }
+    requires awake { (n : ℕ) → (mark_in marks.now n).waits.birth ≡ 0 }
     requires undecided { is_listed is_txn (decided_of parts.old.rows.items marks.now) id ≡ false }
     ensures kept { IsKept parts.new marks.now }
-    ensures lists { lists_of parts.new.rows.items ≡ untold id (lists_of parts.old.rows.items) }
+    ensures lists { lists_by parts.new.rows.items ≡ untold id (lists_by parts.old.rows.items) }
     ensures decided { decided_of parts.new.rows.items marks.now ≡ decided_of parts.old.rows.items marks.now }
     ensures taken { (n : ℕ) → lookup (is_txn id) parts.old.numbers.entries ≡ Some n → IsTakenBack n parts.old.rows.items parts.new.rows.items }
     ensures same { lookup (is_txn id) parts.old.numbers.entries ≡ None → parts.new.rows.items ≡ parts.old.rows.items }
@@ -261,7 +252,7 @@ pub(crate) fn is_decided(parts: &Parts, marks: &[Mark], id: TxnId) -> bool
 // Marks all transactions as decided that are so and were not marked. Takes no memory.
 pub(crate) fn decide_all(parts: &mut Parts, marks: &mut [Mark], ids: &[TxnId])
     requires kept { IsKept parts.old marks.old }
-    requires new { AreAllNew (IsListed is_txn (decided_of parts.old.rows.items marks.old)) (links_of parts.old.rows.items) ids.now }
+    requires new { AreAllNew (IsListed is_txn (decided_of parts.old.rows.items marks.old)) (row_links parts.old.rows.items) ids.now }
     ensures kept { IsKept parts.new marks.new }
     ensures rows { parts.new.rows ≡ parts.old.rows }
     ensures decided { (t : Id) → is_listed is_txn (decided_of parts.old.rows.items marks.new) t ≡ is_listed is_txn (decided_of parts.old.rows.items marks.old ++ ids.now) t }
@@ -301,7 +292,7 @@ pub(crate) fn settle_kept(parts: &mut Parts, marks: &mut [Mark], bits: &mut BitR
     requires { AreKept parts.old marks.old bits.old }
     ensures kept { AreKept parts.new marks.new bits.new }
     ensures known { known_of parts.new.rows.items ≡ known_of parts.old.rows.items }
-    ensures links { links_of parts.new.rows.items ≡ map (without_links (λ t. is_txn t id)) (links_of parts.old.rows.items) }
+    ensures links { row_links parts.new.rows.items ≡ map (without_links (λ t. is_txn t id)) (row_links parts.old.rows.items) }
     ensures decided { decided_of parts.new.rows.items marks.new ≡ decided_of parts.old.rows.items marks.old }
 {
     if let Some(at) = number_of(&parts.numbers, id) {
@@ -310,12 +301,32 @@ pub(crate) fn settle_kept(parts: &mut Parts, marks: &mut [Mark], bits: &mut BitR
     }
 }
 
+// The entries that name the transaction of a row are done. Its own list, where it has one, stays. Takes no memory: where it has a list it looks at
+// all others, and else at those alone that are not decided.
+fn settle_at(parts: &mut Parts, marks: &mut [Mark], id: TxnId, at: usize)
+    requires whole { AreWhole parts.old }
+    requires marked { AreMarked parts.old.rows.items marks.old }
+    requires undecided { AreOpen parts.old.rows.items marks.old parts.old.undecided.items }
+    requires here { lookup (is_txn id) parts.old.numbers.entries ≡ Some at }
+    ensures whole { AreWhole parts.new }
+    ensures settled { Settles id parts.old.rows.items parts.new.rows.items marks.old marks.new }
+    ensures undecided { AreOpen parts.new.rows.items marks.new parts.new.undecided.items }
+    ensures leads { LeadsBut at parts.old.rows.items parts.new.rows.items }
+{
+    if is_told(&parts.rows, at) {
+        cut_rows(&mut parts.rows, at);
+        wake_all(marks, &parts.undecided);
+        return;
+    }
+    end_marked(parts, marks, id);
+}
+
 // Ends the rows of transactions that are decided. Takes no memory, and looks at no other decided list.
 pub(crate) fn end_all(parts: &mut Parts, marks: &mut [Mark], bits: &mut BitRows, ids: &[TxnId])
     requires kept { AreKept parts.old marks.old bits.old }
     requires decided { (t : Id) → IsListed is_txn ids.now t → is_listed is_txn (decided_of parts.old.rows.items marks.old) t ≡ true }
     ensures kept { AreKept parts.new marks.new bits.new }
-    ensures lists { lists_of parts.new.rows.items ≡ all_ended ids.now (lists_of parts.old.rows.items) }
+    ensures lists { lists_by parts.new.rows.items ≡ all_ended ids.now (lists_by parts.old.rows.items) }
     ensures decided { (t : Id) → is_listed is_txn (decided_of parts.new.rows.items marks.new) t
         ≡ (is_listed is_txn (decided_of parts.old.rows.items marks.old) t && not (is_listed is_txn ids.now t)) }
 {
@@ -329,7 +340,7 @@ fn end_noted(parts: &mut Parts, marks: &mut [Mark], bits: &mut BitRows, id: TxnI
     requires kept { AreKept parts.old marks.old bits.old }
     requires may { (list_of id (known_of parts.old.rows.items) ≡ None) ⊎ (is_listed is_txn (decided_of parts.old.rows.items marks.old) id ≡ true) }
     ensures kept { AreKept parts.new marks.new bits.new }
-    ensures lists { lists_of parts.new.rows.items ≡ ended id (lists_of parts.old.rows.items) }
+    ensures lists { lists_by parts.new.rows.items ≡ lists_ended id (lists_by parts.old.rows.items) }
     ensures decided { (t : Id) → is_listed is_txn (decided_of parts.new.rows.items marks.new) t ≡ (is_listed is_txn (decided_of parts.old.rows.items marks.old) t && not (is_txn t id)) }
 {
     match number_of(&parts.numbers, id) {
@@ -345,7 +356,7 @@ fn end_one(parts: &mut Parts, marks: &mut [Mark], id: TxnId)
     requires kept { IsKept parts.old marks.old }
     requires may { (list_of id (known_of parts.old.rows.items) ≡ None) ⊎ (is_listed is_txn (decided_of parts.old.rows.items marks.old) id ≡ true) }
     ensures kept { IsKept parts.new marks.new }
-    ensures lists { lists_of parts.new.rows.items ≡ ended id (lists_of parts.old.rows.items) }
+    ensures lists { lists_by parts.new.rows.items ≡ lists_ended id (lists_by parts.old.rows.items) }
     ensures decided { (t : Id) → is_listed is_txn (decided_of parts.new.rows.items marks.new) t ≡ (is_listed is_txn (decided_of parts.old.rows.items marks.old) t && not (is_txn t id)) }
     ensures out { (n : ℕ) → lookup (is_txn id) parts.old.numbers.entries ≡ Some n → IsOut n parts.old.rows.items parts.new.rows.items }
     ensures same { lookup (is_txn id) parts.old.numbers.entries ≡ None → parts.new.rows.items ≡ parts.old.rows.items }

@@ -6,15 +6,14 @@ ghost use Rattle.roc_base.specs.TxnId.{is_txn, txn_cmp};
 ghost use Rattle.roc_component.specs.Components.{AreTaken};
 ghost use Rattle.roc_depgraph.specs.Deps.{entries_of};
 ghost use Rattle.roc_server_table.specs.Inner.Among.{among, followed_from, is_skipped, links_past, links_within, skipped_at, told_row};
-ghost use Rattle.roc_server_table.specs.Inner.LinksBut.{links_but};
-ghost use Rattle.roc_server_table.specs.Inner.Rows.{followed, is_alive, links_of, row_at, IsTable};
+ghost use Rattle.roc_server_rows.specs.LinksBut.{links_but};
+ghost use Rattle.roc_server_rows.specs.Rows.{followed, is_alive, row_links, row_in, IsRowTable};
 
-use crate::marks::is_alive;
-use crate::rows::{Link, Row, number_of};
 use roc_base::{Edge, Edges, NoMemory, TxnId};
 use roc_component::{rising, taken_components};
 use roc_depgraph::{Deps, is_among_rising};
 use roc_sequence::Sequence;
+use roc_server_rows::{Link, Row, id_at, is_alive, number_of};
 use std::alloc::Global;
 use std::collections::HashMap;
 
@@ -29,7 +28,7 @@ pub(crate) fn taken_of(
     ids: &[TxnId],
     except: Option<usize>,
 ) -> Result<Vec<Sequence<TxnId>>, NoMemory>
-    requires { IsTable numbers.now.entries rows.now stamp }
+    requires { IsRowTable numbers.now.entries rows.now stamp }
     ensures { IfOk result (λ components. AreTaken (links_but except rows.now) ids.now components.items) }
 {
     let members = rising(alloc, ids)?;
@@ -59,16 +58,6 @@ fn skipped_at(rows: &[Row], except: Option<usize>) -> Option<TxnId>
     }
 }
 
-// The transaction of the row at a number, and the first of all ids where there is no row.
-pub(crate) fn id_at(rows: &[Row], at: usize) -> TxnId
-    ensures { result ≡ (row_at rows.now at).id }
-{
-    match rows.get(at) {
-        Some(row) => row.id,
-        None => TxnId { coord: 0, seq: 0 },
-    }
-}
-
 // What is followed from one of the ids, which rise, to another.
 fn links_among(
     alloc: Global,
@@ -78,9 +67,9 @@ fn links_among(
     ids: &[TxnId],
     skipped: Option<TxnId>,
 ) -> Result<Deps, NoMemory>
-    requires whole { IsTable numbers.now.entries rows.now stamp }
+    requires whole { IsRowTable numbers.now.entries rows.now stamp }
     requires rising { IsStrictlySortedBy txn_cmp ids.now }
-    ensures { IfOk result (λ links. links ≡ links_within (links_past skipped (links_of rows.now)) ids.now ids.now) }
+    ensures { IfOk result (λ links. links ≡ links_within (links_past skipped (row_links rows.now)) ids.now ids.now) }
 {
     let mut links = Deps::new(alloc);
     for id in ids {
@@ -98,8 +87,8 @@ fn told_row<'a>(
     stamp: u64,
     id: TxnId,
 ) -> Option<&'a Row>
-    requires { IsTable numbers.now.entries rows.now stamp }
-    ensures { entries_of (links_of rows.now) id ≡ followed_from rows.now (option_copied result) }
+    requires { IsRowTable numbers.now.entries rows.now stamp }
+    ensures { entries_of (row_links rows.now) id ≡ followed_from rows.now (option_copied result) }
 {
     match number_of(numbers, id) {
         Some(at) => told_row_at(rows, at),
@@ -110,7 +99,7 @@ fn told_row<'a>(
 // The row at a number, where it has a list.
 fn told_row_at(rows: &[Row], at: usize) -> Option<&Row>
     requires { at < length rows.now }
-    ensures { option_copied result ≡ told_row (row_at rows.now at) }
+    ensures { option_copied result ≡ told_row (row_in rows.now at) }
 {
     if_told(&rows[at])
 }

@@ -5,17 +5,15 @@ ghost use Rattle.roc_base.specs.TxnId.{is_txn};
 ghost use Rattle.roc_component.specs.Components.{AreTaken};
 ghost use Rattle.roc_step.specs.Links.{without_links};
 ghost use Rattle.roc_step.specs.New.{AreAllNew};
-ghost use Rattle.roc_server_table.specs.Inner.Rows.{row_at, links_of, IsWhole};
-ghost use Rattle.roc_server_table.specs.Inner.Except.{IsExceptLive};
-ghost use Rattle.roc_server_table.specs.Inner.LinksBut.{links_but};
+ghost use Rattle.roc_server_rows.specs.Rows.{row_links, AreWhole};
+ghost use Rattle.roc_server_rows.specs.Except.{IsExceptLive};
+ghost use Rattle.roc_server_rows.specs.LinksBut.{links_but};
 ghost use Rattle.roc_server_table.specs.Inner.Kept.{decided_of, IsKept};
 
-use crate::components::{id_at, taken_of};
-use crate::marks::{Mark, newly};
-use crate::rows::{Parts, Row, number_of};
+use crate::components::taken_of;
 use roc_base::{NoMemory, TxnId};
 use roc_sequence::Sequence;
-use std::alloc::Global;
+use roc_server_rows::{Mark, Parts, ids_at, newly, number_of};
 
 // The transactions that are decided and not marked so, each once, where links to the row `except` are not followed.
 pub(crate) fn new_ids(
@@ -36,17 +34,6 @@ pub(crate) fn new_ids(
     }
 }
 
-// The transactions of rows.
-pub(crate) fn ids_at(alloc: Global, rows: &[Row], numbers: &[usize]) -> Result<Vec<TxnId>, NoMemory>
-    ensures { IfOk result (λ ids. ids.items ≡ map (λ n. (row_at rows.now n).id) numbers.now) }
-{
-    let mut ids = Vec::new(alloc);
-    for at in numbers {
-        ids.push(id_at(rows, *at))?;
-    }
-    Ok(ids)
-}
-
 // The same where entries that name one transaction are not followed.
 pub(crate) fn new_ids_without(
     parts: &Parts,
@@ -56,7 +43,7 @@ pub(crate) fn new_ids_without(
     requires kept { IsKept parts.now marks.old }
     ensures kept { IsKept parts.now marks.new }
     ensures same { decided_of parts.now.rows.items marks.new ≡ decided_of parts.now.rows.items marks.old }
-    ensures new { IfOk result (λ ids. AreAllNew (IsListed is_txn (decided_of parts.now.rows.items marks.old)) (map (without_links (λ t. is_txn t id)) (links_of parts.now.rows.items)) ids.items) }
+    ensures new { IfOk result (λ ids. AreAllNew (IsListed is_txn (decided_of parts.now.rows.items marks.old)) (map (without_links (λ t. is_txn t id)) (row_links parts.now.rows.items)) ids.items) }
     ensures once { IfOk result (λ ids. NoneTwice is_txn ids.items) }
 {
     let except = number_of(&parts.numbers, id);
@@ -69,8 +56,8 @@ pub(crate) fn taken_without(
     id: TxnId,
     ids: &[TxnId],
 ) -> Result<Vec<Sequence<TxnId>>, NoMemory>
-    requires { IsWhole parts.now }
-    ensures { IfOk result (λ components. AreTaken (map (without_links (λ t. is_txn t id)) (links_of parts.now.rows.items)) ids.now components.items) }
+    requires { AreWhole parts.now }
+    ensures { IfOk result (λ components. AreTaken (map (without_links (λ t. is_txn t id)) (row_links parts.now.rows.items)) ids.now components.items) }
 {
     let except = number_of(&parts.numbers, id);
     taken_of(

@@ -5,20 +5,18 @@ ghost use Rattle.roc_base.specs.TxnId.{is_txn};
 ghost use Rattle.roc_step.specs.Led.{IsKnownAndLedTo};
 ghost use Rattle.roc_server_reach.specs.Bits.{AreReached, AreSameBits, IsPut};
 ghost use Rattle.roc_server_reach.specs.Least.{AreLeastIds};
-ghost use Rattle.roc_server_table.specs.Inner.Rows.{row_at, is_alive, is_told, links_of, IsWhole};
+ghost use Rattle.roc_server_rows.specs.Rows.{row_in, is_alive, is_told, row_links, AreWhole};
 ghost use Rattle.roc_server_table.specs.Inner.Leading.{live_numbers, start_of, starts_of, told_ids, AreBits};
 
-use crate::finding::ids_at;
-use crate::marks::{is_alive, is_told};
-use crate::rows::{Link, Parts, Row, number_of};
 use roc_base::{Edge, NoMemory, TxnId};
 use roc_server_reach::{BitRows, least};
+use roc_server_rows::{Link, Parts, Row, ids_at, is_alive, is_told, number_of};
 use std::alloc::Global;
 use std::collections::HashMap;
 
 // Notes where a row leads.
 pub(crate) fn note_row(parts: &Parts, bits: &mut BitRows, at: usize) -> Result<(), NoMemory>
-    ensures ok { OnOk result (IsPut at (live_numbers parts.now.rows.items (row_at parts.now.rows.items at).names) bits.old bits.new) }
+    ensures ok { OnOk result (IsPut at (live_numbers parts.now.rows.items (row_in parts.now.rows.items at).names) bits.old bits.new) }
     ensures err { OnErr result (AreSameBits bits.old bits.new) }
 {
     match live_at(parts.alloc, &parts.rows, at) {
@@ -29,7 +27,7 @@ pub(crate) fn note_row(parts: &Parts, bits: &mut BitRows, at: usize) -> Result<(
 
 // The numbers to which the links of a row lead that are alive.
 fn live_at(alloc: Global, rows: &[Row], at: usize) -> Result<Vec<usize>, NoMemory>
-    ensures { IfOk result (λ numbers. numbers.items ≡ live_numbers rows.now (row_at rows.now at).names) }
+    ensures { IfOk result (λ numbers. numbers.items ≡ live_numbers rows.now (row_in rows.now at).names) }
 {
     match rows.get(at) {
         Some(row) => live_among(alloc, rows, row.names.as_slice()),
@@ -60,9 +58,9 @@ fn push_live(numbers: &mut Vec<usize>, rows: &[Row], link: Link) -> Result<(), N
 
 // The least of the transactions that have lists and to which entries lead.
 pub(crate) fn led_to(parts: &Parts, bits: &BitRows, edges: &[Edge]) -> Result<Vec<TxnId>, NoMemory>
-    requires whole { IsWhole parts.now }
+    requires whole { AreWhole parts.now }
     requires bits { AreBits parts.now.rows.items bits.now }
-    ensures { IfOk result (λ ids. AreLeastIds (IsKnownAndLedTo (links_of parts.now.rows.items) edges.now) ids.items) }
+    ensures { IfOk result (λ ids. AreLeastIds (IsKnownAndLedTo (row_links parts.now.rows.items) edges.now) ids.items) }
 {
     let found = reached_from(parts, bits, edges)?;
     let met = told_ids(parts.alloc, &parts.rows, &found)?;
@@ -115,7 +113,7 @@ fn told_ids(alloc: Global, rows: &[Row], numbers: &[usize]) -> Result<Vec<TxnId>
 
 // Those of the rows that have lists.
 fn told_among(alloc: Global, rows: &[Row], numbers: &[usize]) -> Result<Vec<usize>, NoMemory>
-    ensures { IfOk result (λ told. told.items ≡ filter (λ n. is_told (row_at rows.now n)) numbers.now) }
+    ensures { IfOk result (λ told. told.items ≡ filter (λ n. is_told (row_in rows.now n)) numbers.now) }
 {
     let mut told = Vec::new(alloc);
     for at in numbers {

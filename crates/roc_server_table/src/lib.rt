@@ -1,6 +1,7 @@
 //! The lists that a server keeps, by number: each transaction whose list it knows or that a link names has a row, and a link is the number of a row
 //! with the birth of what it names. So to forget a transaction ends one row, whatever names it. Which transactions are decided is marked row by row.
 //! What is not so is marked with a row without a list that it waits for, and is looked at again only once that row gets its list or ends.
+//! Rows and marks, and how single ones change, are those of `roc_server_rows`.
 //!
 //! Contracts see a [`ListTable`] as `TableLists` (`specs/Kept.antt`): the lists as they came and what is followed of each, both in the order in which
 //! they came, and the transactions that are marked as decided, of which membership alone is promised. What is new, what is followed and in which
@@ -19,9 +20,6 @@ mod changes;
 mod components;
 mod finding;
 mod leading;
-mod marking;
-mod marks;
-mod rows;
 mod table;
 
 pub use table::ListTable;

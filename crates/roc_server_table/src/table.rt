@@ -19,12 +19,11 @@ use crate::changes::{decide_all, end_all, is_decided, learn_all, settle_kept, un
 use crate::components::taken_of;
 use crate::finding::{new_ids, new_ids_without, taken_without};
 use crate::leading::led_to;
-use crate::marks::Mark;
-use crate::rows::{Parts, least_naming, list, none};
 use roc_base::{Edge, Edges, NoMemory, TxnId};
 use roc_depgraph::KnownList;
 use roc_sequence::Sequence;
 use roc_server_reach::BitRows;
+use roc_server_rows::{Mark, Parts, least_naming, list, none};
 use std::alloc::Global;
 use std::marker::Model;
 

@@ -7,13 +7,13 @@ use Rattle.roc_base.specs.Edge.{Dependency}
 use Rattle.roc_depgraph.specs.declared.known.KnownList.{KnownList}
 use Rattle.roc_depgraph.specs.Deps.{entries_of}
 use Rattle.roc_step.specs.Links.{without_links}
-use Rattle.roc_server_table.specs.declared.rows.Row.{Row}
-use Rattle.roc_server_table.specs.Inner.Rows.{row_at, followed, is_told}
+use Rattle.roc_server_rows.specs.declared.rows.Row.{Row}
+use Rattle.roc_server_rows.specs.Rows.{row_in, followed, is_told}
 
 -- the transaction to which no link is followed
 abbrev pub skipped_at : Option ℕ → List Row → Option TxnId
 skipped_at None rows = None
-skipped_at (Some m) rows = Some (row_at rows m).id
+skipped_at (Some m) rows = Some (row_in rows m).id
 
 abbrev pub is_skipped : Option TxnId → TxnId → Bool
 is_skipped None t = false

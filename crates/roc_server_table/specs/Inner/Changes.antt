@@ -1,51 +1,25 @@
--- How the lists of rows change
-use Rattle.std.specs.Prelude.{not, List, [], ◌∷◌, ◌++◌, map, filter}
+-- How the lists of rows change by several
+use Rattle.std.specs.Prelude.{not, List, ◌++◌, map, filter}
 use Rattle.roc_sequence.specs.Places.{is_listed}
 use Rattle.roc_base.specs.declared.id.TxnId.{TxnId}
 use Rattle.roc_base.specs.TxnId.{is_txn}
-use Rattle.roc_base.specs.Edge.{Dependency}
 use Rattle.roc_depgraph.specs.declared.known.KnownList.{KnownList}
 use Rattle.roc_depgraph.specs.Deps.{is_known}
-use Rattle.roc_step.specs.Carried.{list_with}
 use Rattle.roc_step.specs.Links.{without_links}
+use Rattle.roc_server_rows.specs.Changes.{RowLists}
 
--- the lists as they came, and what is followed of each
-pub record KeptLists : Type 0 where
-  pub known : List KnownList
-  pub links : List KnownList
-
--- one more list stands behind the others; its entries that name one of these are not followed
-abbrev pub with_list : (done : List TxnId) → TxnId → List Dependency → KeptLists → KeptLists
-with_list done id edges k =
-    record {
-      known = k.known ++ list_with id edges ∷ [];
-      links = k.links ++ without_links (is_listed is_txn done) (list_with id edges) ∷ [];
-    }
-
--- so do several
-abbrev pub with_lists : (done : List TxnId) → (news : List KnownList) → KeptLists → KeptLists
+-- several more lists stand behind the others; their entries that name one of these are not followed
+abbrev pub with_lists : (done : List TxnId) → (news : List KnownList) → RowLists → RowLists
 with_lists done news k = record { known = k.known ++ news; links = k.links ++ map (without_links (is_listed is_txn done)) news }
 
--- without the list of a transaction, and with each entry done that names it
-abbrev pub ended : TxnId → KeptLists → KeptLists
-ended id k =
-    record {
-      known = filter (λ l. not (is_txn l.of id)) k.known;
-      links = map (without_links (λ t. is_txn t id)) (filter (λ l. not (is_txn l.of id)) k.links);
-    }
-
 -- without the lists of these transactions, and with each entry done that names one of them
-abbrev pub all_ended : (ids : List TxnId) → KeptLists → KeptLists
+abbrev pub all_ended : (ids : List TxnId) → RowLists → RowLists
 all_ended ids k =
     record {
       known = filter (λ l. not (is_listed is_txn ids l.of)) k.known;
       links = map (without_links (is_listed is_txn ids)) (filter (λ l. not (is_listed is_txn ids l.of)) k.links);
     }
 
--- the list of a transaction is taken back: entries that name it stay
-abbrev pub untold : TxnId → KeptLists → KeptLists
-untold id k = record { known = filter (λ l. not (is_txn l.of id)) k.known; links = filter (λ l. not (is_txn l.of id)) k.links }
-
--- so are those of the transactions of these
-abbrev pub all_untold : (news : List KnownList) → KeptLists → KeptLists
+-- the lists of the transactions of these are taken back: entries that name them stay
+abbrev pub all_untold : (news : List KnownList) → RowLists → RowLists
 all_untold news k = record { known = filter (λ l. not (is_known news l.of)) k.known; links = filter (λ l. not (is_known news l.of)) k.links }

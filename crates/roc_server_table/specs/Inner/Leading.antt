@@ -6,18 +6,18 @@ use Rattle.roc_base.specs.declared.id.TxnId.{TxnId}
 use Rattle.roc_base.specs.TxnId.{is_txn}
 use Rattle.roc_base.specs.Edge.{Dependency}
 use Rattle.roc_server_reach.specs.Bits.{bit_at, BitTable}
-use Rattle.roc_server_table.specs.declared.rows.Link.{Link}
-use Rattle.roc_server_table.specs.declared.rows.Row.{Row}
-use Rattle.roc_server_table.specs.declared.rows.Parts.{Parts}
-use Rattle.roc_server_table.specs.declared.marks.Mark.{Mark}
-use Rattle.roc_server_table.specs.Inner.Rows.{row_at, is_alive, is_told}
+use Rattle.roc_server_rows.specs.declared.rows.Link.{Link}
+use Rattle.roc_server_rows.specs.declared.rows.Row.{Row}
+use Rattle.roc_server_rows.specs.declared.rows.Parts.{Parts}
+use Rattle.roc_server_rows.specs.declared.marks.Mark.{Mark}
+use Rattle.roc_server_rows.specs.Rows.{row_in, is_alive, is_told}
 use Rattle.roc_server_table.specs.Inner.Kept.{IsKept}
 
 -- a row with a list has a link to another that is there
 pub record LeadsTo (rows : List Row) (n m : ℕ) : Type 0 where
-  pub told : is_told (row_at rows n) ≡ true
+  pub told : is_told (row_in rows n) ≡ true
   pub link : Link
-  pub has : Has link (row_at rows n).names
+  pub has : Has link (row_in rows n).names
   pub alive : is_alive rows link ≡ true
   pub is : link.at ≡ m
 
@@ -52,4 +52,4 @@ starts_of numbers (d ∷ ds) = start_of (lookup (is_txn d.from) numbers) ++ star
 
 -- the transactions of those rows of some that have lists
 abbrev pub told_ids : List Row → List ℕ → List TxnId
-told_ids rows ns = map (λ n. (row_at rows n).id) (filter (λ n. is_told (row_at rows n)) ns)
+told_ids rows ns = map (λ n. (row_in rows n).id) (filter (λ n. is_told (row_in rows n)) ns)

@@ -1,7 +1,7 @@
 use Rattle.std.proofs.Common.{◌≡◌, ◌∙◌, List, filter, ap, refl}
-use Rattle.roc_server_table.specs.declared.rows.Row.{Row}
-use Rattle.roc_server_table.specs.declared.rows.Parts.{Parts}
-use Rattle.roc_server_table.specs.Inner.Marks.{is_open}
+use Rattle.roc_server_rows.specs.declared.rows.Row.{Row}
+use Rattle.roc_server_rows.specs.declared.rows.Parts.{Parts}
+use Rattle.roc_server_rows.specs.Marks.{is_open}
 use Rattle.roc_server_table.proofs.DecidedToo.{too_decided, too_kept}
 use Rattle.roc_server_table.proofs.changes.decide_all.Goals as goal
 

@@ -1,6 +1,6 @@
 use Rattle.std.proofs.Common.{◌≡◌, ◌+◌, ◌∙◌, length, ap, arith}
 use Rattle.std.proofs.lemmas.List.{length_push}
-use Rattle.roc_server_table.specs.Inner.Marks.{no_mark, mark_at}
+use Rattle.roc_server_rows.specs.Marks.{no_mark, mark_in}
 use Rattle.roc_server_table.proofs.FilledMarks.{mark_more}
 use Rattle.roc_server_table.proofs.changes.fill.Goals as goal
 
@@ -10,7 +10,7 @@ rows-preserved c =
     let items = c.push_none.ensures.items in
     let more : length c.push_none.new.marks.items ≡ length marks.items + 1 = ap length items ∙ length_push marks.items no_mark in
     record {
-      same = λ n. ap (λ ms. mark_at ms n) items ∙ (mark_more marks.items n ∙ c.rows.invariant.same n);
+      same = λ n. ap (λ ms. mark_in ms n) items ∙ (mark_more marks.items n ∙ c.rows.invariant.same n);
       fewer = omega arith;
       room = omega arith;
     }

@@ -1,10 +1,10 @@
 use Rattle.std.proofs.Common.{◌≡◌, ◌≤◌, ◌-◌, ℕ, length, vec_capacity, vec_len}
-use Rattle.roc_server_table.specs.Inner.Marks.{mark_at}
+use Rattle.roc_server_rows.specs.Marks.{mark_in}
 use Rattle.roc_server_table.proofs.changes.fill.Given as goal
 
 abbrev pub invariant-rows : goal.invariant-rows
 invariant-rows l = record {
-  same : (n : ℕ) → mark_at l.marks.items n ≡ mark_at l.initial.marks.items n;
+  same : (n : ℕ) → mark_in l.marks.items n ≡ mark_in l.initial.marks.items n;
   fewer : length l.marks.items ≤ length l.rows;
   room : length l.rows ≤ vec_capacity l.marks;
 }

@@ -1,7 +1,7 @@
 use Rattle.std.proofs.Common.{◌≡◌, ◌∙◌, None, Some, sym, ap}
 use Rattle.std.specs.Map.{lookup}
 use Rattle.roc_base.specs.TxnId.{is_txn}
-use Rattle.roc_server_table.specs.declared.marks.Mark.{Mark}
+use Rattle.roc_server_rows.specs.declared.marks.Mark.{Mark}
 use Rattle.roc_server_table.proofs.DecidedIds.{decided_at, decided_none}
 use Rattle.roc_server_table.proofs.changes.is_decided.Goals as goal
 

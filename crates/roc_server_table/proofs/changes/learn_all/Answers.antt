@@ -1,9 +1,10 @@
 use Rattle.std.proofs.Common.{◌≡◌, ◌∙◌, List, length, ap, refl, sym, subst, arith}
 use Rattle.roc_sequence.proofs.Fronts.{front_whole}
 use Rattle.roc_depgraph.specs.declared.known.KnownList.{KnownList}
-use Rattle.roc_server_table.specs.declared.marks.Mark.{Mark}
-use Rattle.roc_server_table.specs.Inner.Changes.{with_lists, KeptLists}
-use Rattle.roc_server_table.specs.Inner.Rows.{known_of, lists_of}
+use Rattle.roc_server_rows.specs.declared.marks.Mark.{Mark}
+use Rattle.roc_server_rows.specs.Changes.{RowLists}
+use Rattle.roc_server_table.specs.Inner.Changes.{with_lists}
+use Rattle.roc_server_rows.specs.Rows.{known_of, lists_by}
 use Rattle.roc_server_table.specs.Inner.Kept.{decided_of, table_of}
 use Rattle.roc_server_table.specs.Inner.Leading.{AreKept}
 use Rattle.roc_server_table.proofs.AllLearnt.{learnable_more, lists_more, next_new, none_more, same_table, so_far_back, so_far_undecided}
@@ -11,7 +12,7 @@ use Rattle.roc_server_table.proofs.FilledMarks.{refilled}
 use Rattle.roc_server_table.proofs.changes.learn_all.Goals as goal
 
 pub loop-at-init : goal.loop-at-init
-loop-at-init c = record { kept = c.requires.kept; lists = none_more c.args.done.now (lists_of c.args.parts.now.rows.items); decided = refl; learnable = c.requires.learnable }
+loop-at-init c = record { kept = c.requires.kept; lists = none_more c.args.done.now (lists_by c.args.parts.now.rows.items); decided = refl; learnable = c.requires.learnable }
 
 pub learn_noted-requires : goal.learn_noted-requires
 learn_noted-requires c = record {
@@ -39,9 +40,9 @@ returns-in-Err-clause-err c =
     let marks = c.unlearn_all.new.marks in
     let each : length marks ≡ length c.deref_mut.result.now = omega arith in
     let many : length marks ≡ length c.learn_noted.new.marks.items = each ∙ ap length c.deref_mut.ensures.value in
-    let lists : lists_of new.rows.items ≡ lists_of p.rows.items
+    let lists : lists_by new.rows.items ≡ lists_by p.rows.items
     = c.unlearn_all.ensures.lists ∙ so_far_back p q c.args.marks.now.items marks c.requires.kept.kept c.args.news.now c.requires.learnable c.loop-at.at c.args.done.now
-    (lists_of q.rows.items) (c.in-Err.ensures.err ∙ c.loop-at.invariant.lists) in
+    (lists_by q.rows.items) (c.in-Err.ensures.err ∙ c.loop-at.invariant.lists) in
     let decided : decided_of new.rows.items marks ≡ decided_of p.rows.items c.args.marks.now.items
     = c.unlearn_all.ensures.decided ∙ (ap (decided_of q.rows.items) c.deref_mut.ensures.value ∙ (c.learn_noted.ensures.decided ∙ c.loop-at.invariant.decided)) in
     ap (table_of new.rows.items) (refilled c.learn_noted.new.marks.len marks c.learn_noted.new.marks.items many c.learn_noted.new.marks.ok.0)
@@ -52,9 +53,9 @@ loop-at-preserved c =
     let i = c.loop-at.invariant in
     let k = c.index-news-at.result in
     let e = c.in_default.ensures in
-    let old = lists_of c.args.parts.now.rows.items in
-    let now = lists_of c.loop-at.parts.rows.items in
-    let new = lists_of c.learn_noted.new.parts.rows.items in
+    let old = lists_by c.args.parts.now.rows.items in
+    let now = lists_by c.loop-at.parts.rows.items in
+    let new = lists_by c.learn_noted.new.parts.rows.items in
     record {
       kept = e.kept;
       lists = lists_more c.args.done.now c.args.news.now c.loop-at.at k c.loop-at-test.true c.index-news-at.is old now new i.lists e.ok;
@@ -65,9 +66,9 @@ loop-at-preserved c =
 pub returns-clause-known : goal.returns-clause-known
 returns-clause-known c =
     let all = front_whole c.args.news.now c.loop-at.at c.loop-at-test.false in
-    ap (λ (k : KeptLists). k.known) (c.loop-at.invariant.lists ∙ ap (λ (ks : List KnownList). with_lists c.args.done.now ks (lists_of c.args.parts.now.rows.items)) all)
+    ap (λ (k : RowLists). k.known) (c.loop-at.invariant.lists ∙ ap (λ (ks : List KnownList). with_lists c.args.done.now ks (lists_by c.args.parts.now.rows.items)) all)
 
 pub returns-clause-links : goal.returns-clause-links
 returns-clause-links c =
     let all = front_whole c.args.news.now c.loop-at.at c.loop-at-test.false in
-    ap (λ (k : KeptLists). k.links) (c.loop-at.invariant.lists ∙ ap (λ (ks : List KnownList). with_lists c.args.done.now ks (lists_of c.args.parts.now.rows.items)) all)
+    ap (λ (k : RowLists). k.links) (c.loop-at.invariant.lists ∙ ap (λ (ks : List KnownList). with_lists c.args.done.now ks (lists_by c.args.parts.now.rows.items)) all)

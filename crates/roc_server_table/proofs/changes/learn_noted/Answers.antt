@@ -2,7 +2,7 @@ use Rattle.std.proofs.Common.{◌≡◌, ◌∙◌, List, is_some, length, ap, s
 use Rattle.roc_sequence.specs.Places.{is_listed}
 use Rattle.roc_base.specs.declared.id.TxnId.{TxnId}
 use Rattle.roc_base.specs.TxnId.{is_txn}
-use Rattle.roc_server_table.specs.Inner.Changes.{untold}
+use Rattle.roc_server_rows.specs.Changes.{untold}
 use Rattle.roc_server_table.specs.Inner.Kept.{decided_of, IsKept}
 use Rattle.roc_server_table.proofs.AllLearnt.{one_untold, unknown_undecided}
 use Rattle.roc_server_table.proofs.FilledMarks.{refilled}

@@ -1,7 +1,7 @@
 use Rattle.std.proofs.Common.{◌≡◌, ◌∙◌, None, sym}
 use Rattle.std.specs.Map.{lookup}
 use Rattle.roc_base.specs.TxnId.{is_txn}
-use Rattle.roc_server_table.proofs.Ended.{absent_links}
+use Rattle.roc_server_rows.proofs.Ended.{absent_links}
 use Rattle.roc_server_table.proofs.LeadingRows.{but_bits}
 use Rattle.roc_server_table.proofs.NewIds.{settled_decided}
 use Rattle.roc_server_table.proofs.changes.settle_kept.Goals as goal

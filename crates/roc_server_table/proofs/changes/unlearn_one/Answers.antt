@@ -2,7 +2,7 @@ use Rattle.std.proofs.Common.{◌∙◌, ℕ, List, sym, ap, subst}
 use Rattle.roc_sequence.specs.Places.{is_listed}
 use Rattle.roc_base.specs.declared.id.TxnId.{TxnId}
 use Rattle.roc_base.specs.TxnId.{is_txn}
-use Rattle.roc_server_table.specs.Inner.Marks.{HasWaiting}
+use Rattle.roc_server_rows.specs.Marks.{HasWaiting}
 use Rattle.roc_server_table.proofs.TakenBack.{awake_decided, awake_kept}
 use Rattle.roc_server_table.proofs.changes.unlearn_one.Goals as goal
 

@@ -5,13 +5,13 @@ use Rattle.roc_base.specs.declared.id.TxnId.{TxnId}
 use Rattle.roc_base.specs.TxnId.{is_txn}
 use Rattle.roc_depgraph.specs.declared.known.KnownList.{KnownList}
 use Rattle.roc_server_table.specs.Inner.Changes.{all_untold}
-use Rattle.roc_server_table.specs.Inner.Rows.{lists_of}
+use Rattle.roc_server_rows.specs.Rows.{lists_by}
 use Rattle.roc_server_table.proofs.TakenBack.{none_untold, untold_next}
-use Rattle.roc_server_table.proofs.Waits.{has_at}
+use Rattle.roc_server_rows.proofs.Waits.{has_at}
 use Rattle.roc_server_table.proofs.changes.untell_all.Goals as goal
 
 pub loop-k-init : goal.loop-k-init
-loop-k-init c = record { kept = c.requires.kept; lists = none_untold (lists_of c.args.parts.now.rows.items); decided = refl }
+loop-k-init c = record { kept = c.requires.kept; lists = none_untold (lists_by c.args.parts.now.rows.items); decided = refl }
 
 pub untell_noted-requires : goal.untell_noted-requires
 untell_noted-requires c =
@@ -30,11 +30,11 @@ loop-k-preserved c =
     let e = c.untell_noted.ensures in
     record {
       kept = e.kept;
-      lists = untold_next c.args.news.now c.loop-k.k-index c.k-item.result (lists_of c.args.parts.now.rows.items) (lists_of c.loop-k.parts.rows.items) (lists_of c.untell_noted.new.parts.rows.items)
+      lists = untold_next c.args.news.now c.loop-k.k-index c.k-item.result (lists_by c.args.parts.now.rows.items) (lists_by c.loop-k.parts.rows.items) (lists_by c.untell_noted.new.parts.rows.items)
           c.loop-k-test.true c.k-item.is i.lists e.lists;
       decided = e.decided ∙ i.decided;
     }
 
 pub returns-clause-lists : goal.returns-clause-lists
 returns-clause-lists c =
-    c.loop-k.invariant.lists ∙ ap (λ (ks : List KnownList). all_untold ks (lists_of c.args.parts.now.rows.items)) (front_whole c.args.news.now c.loop-k.k-index c.loop-k-test.false)
+    c.loop-k.invariant.lists ∙ ap (λ (ks : List KnownList). all_untold ks (lists_by c.args.parts.now.rows.items)) (front_whole c.args.news.now c.loop-k.k-index c.loop-k-test.false)

@@ -1,7 +1,7 @@
 use Rattle.std.proofs.Common.{◌≡◌, List, None, Some, sym, subst}
 use Rattle.std.specs.Map.{lookup}
 use Rattle.roc_base.specs.TxnId.{is_txn}
-use Rattle.roc_server_table.specs.declared.rows.Row.{Row}
+use Rattle.roc_server_rows.specs.declared.rows.Row.{Row}
 use Rattle.roc_server_table.specs.Inner.Leading.{AreBits}
 use Rattle.roc_server_table.proofs.LeadingRows.{back_bits}
 use Rattle.roc_server_table.proofs.changes.untell_noted.Goals as goal

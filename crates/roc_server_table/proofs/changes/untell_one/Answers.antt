@@ -1,9 +1,9 @@
 use Rattle.std.proofs.Common.{◌≡◌, ◌∙◌, ℕ, List, filter, ap}
 use Rattle.std.specs.Prelude.{Vec}
 use Rattle.std.specs.declared.alloc.Global.{Global}
-use Rattle.roc_server_table.specs.declared.rows.Row.{Row}
-use Rattle.roc_server_table.specs.declared.rows.Parts.{Parts}
-use Rattle.roc_server_table.specs.Inner.Marks.{is_open}
+use Rattle.roc_server_rows.specs.declared.rows.Row.{Row}
+use Rattle.roc_server_rows.specs.declared.rows.Parts.{Parts}
+use Rattle.roc_server_rows.specs.Marks.{is_open}
 use Rattle.roc_server_table.proofs.TakenBack.{untold_decided, untold_kept}
 use Rattle.roc_server_table.proofs.changes.untell_one.Goals as goal
 

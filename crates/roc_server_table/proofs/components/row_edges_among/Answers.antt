@@ -1,7 +1,7 @@
 use Rattle.std.proofs.Common.{◌∙◌, ◌++◌, ap}
 use Rattle.roc_base.specs.Edges.{united}
 use Rattle.roc_server_table.specs.Inner.Among.{among}
-use Rattle.roc_server_table.specs.Inner.Rows.{followed}
+use Rattle.roc_server_rows.specs.Rows.{followed}
 use Rattle.roc_server_table.proofs.EntriesAmong.{united_among}
 use Rattle.roc_server_table.proofs.components.row_edges_among.Goals as goal
 

@@ -2,7 +2,7 @@ use Rattle.std.proofs.Common.{◌≡◌, ◌∙◌, Some, ap, sym}
 use Rattle.std.specs.Map.{lookup}
 use Rattle.roc_base.specs.TxnId.{is_txn}
 use Rattle.roc_server_table.specs.Inner.Among.{followed_from}
-use Rattle.roc_server_table.proofs.Alive.{row_within}
+use Rattle.roc_server_rows.proofs.Alive.{row_within}
 use Rattle.roc_server_table.proofs.FoundRows.{links_absent, links_here}
 use Rattle.roc_server_table.proofs.components.told_row.Goals as goal
 

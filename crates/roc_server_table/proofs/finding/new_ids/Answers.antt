@@ -6,28 +6,28 @@ use Rattle.roc_base.specs.declared.id.TxnId.{TxnId}
 use Rattle.roc_base.specs.declared.memory.NoMemory.{NoMemory}
 use Rattle.roc_base.specs.TxnId.{is_txn}
 use Rattle.roc_step.specs.New.{AreAllNew}
-use Rattle.roc_server_table.specs.declared.rows.Row.{Row}
-use Rattle.roc_server_table.specs.declared.rows.Parts.{Parts}
-use Rattle.roc_server_table.specs.declared.marks.Mark.{Mark}
-use Rattle.roc_server_table.specs.Inner.LinksBut.{links_but}
-use Rattle.roc_server_table.specs.Inner.Rows.{row_at, IsTable, IsWhole}
-use Rattle.roc_server_table.specs.Inner.Except.{IsExceptLive}
-use Rattle.roc_server_table.specs.Inner.Marks.{AreMarked, AreNewRowsBut, AreOpen}
+use Rattle.roc_server_rows.specs.declared.rows.Row.{Row}
+use Rattle.roc_server_rows.specs.declared.rows.Parts.{Parts}
+use Rattle.roc_server_rows.specs.declared.marks.Mark.{Mark}
+use Rattle.roc_server_rows.specs.LinksBut.{links_but}
+use Rattle.roc_server_rows.specs.Rows.{row_in, IsRowTable, AreWhole}
+use Rattle.roc_server_rows.specs.Except.{IsExceptLive}
+use Rattle.roc_server_rows.specs.Marks.{AreMarked, AreNewRowsBut, AreOpen}
 use Rattle.roc_server_table.specs.Inner.Kept.{decided_of, IsKept}
 use Rattle.roc_server_table.proofs.NewIds.{alike_decided, all_new_ids, new_once}
 use Rattle.roc_server_table.proofs.finding.new_ids.Goals as goal
 
 -- what is found of rows that are those of the table
 found : (p : Parts) (rs : List Row) → rs ≡ p.rows.items → (except : Option ℕ) (marks : List Mark) (ns : List ℕ)
-    → ((numbers : List (TxnId × ℕ)) (stamp : ℕ) → IsTable numbers rs stamp → AreNewRowsBut except rs marks ns) → IsWhole p → AreNewRowsBut except p.rows.items marks ns
+    → ((numbers : List (TxnId × ℕ)) (stamp : ℕ) → IsRowTable numbers rs stamp → AreNewRowsBut except rs marks ns) → AreWhole p → AreNewRowsBut except p.rows.items marks ns
 found p rs e except marks ns f whole =
-    subst (λ (x : List Row). AreNewRowsBut except x marks ns) e (f p.numbers.entries p.stamp (subst (λ (x : List Row). IsTable p.numbers.entries x p.stamp) (sym e) whole))
+    subst (λ (x : List Row). AreNewRowsBut except x marks ns) e (f p.numbers.entries p.stamp (subst (λ (x : List Row). IsRowTable p.numbers.entries x p.stamp) (sym e) whole))
 
 -- and of their transactions
-ids_found : (P : List TxnId → Type 0) (rows rs : List Row) (numbers ns : List ℕ) (r : Result (Vec TxnId Global) NoMemory) → rs ≡ rows → ns ≡ numbers → P (map (λ n. (row_at rows n).id) numbers)
-    → IfOk r (λ v. v.items ≡ map (λ n. (row_at rs n).id) ns) → IfOk r (λ v. P v.items)
+ids_found : (P : List TxnId → Type 0) (rows rs : List Row) (numbers ns : List ℕ) (r : Result (Vec TxnId Global) NoMemory) → rs ≡ rows → ns ≡ numbers → P (map (λ n. (row_in rows n).id) numbers)
+    → IfOk r (λ v. v.items ≡ map (λ n. (row_in rs n).id) ns) → IfOk r (λ v. P v.items)
 ids_found P rows rs numbers ns (Ok v) e f p h =
-    subst P (sym h) (subst (λ (x : List Row). P (map (λ n. (row_at x n).id) ns)) (sym e) (subst (λ (xs : List ℕ). P (map (λ n. (row_at rows n).id) xs)) (sym f) p))
+    subst P (sym h) (subst (λ (x : List Row). P (map (λ n. (row_in x n).id) ns)) (sym e) (subst (λ (xs : List ℕ). P (map (λ n. (row_in rows n).id) xs)) (sym f) p))
 ids_found P rows rs numbers ns (Err x) e f p h = tt
 
 -- rows were looked at

@@ -4,7 +4,7 @@ use Rattle.std.specs.declared.alloc.Global.{Global}
 use Rattle.roc_base.specs.declared.id.TxnId.{TxnId}
 use Rattle.roc_component.specs.Components.{AreTaken}
 use Rattle.roc_depgraph.specs.declared.known.KnownList.{KnownList}
-use Rattle.roc_server_table.specs.Inner.LinksBut.{links_but}
+use Rattle.roc_server_rows.specs.LinksBut.{links_but}
 use Rattle.roc_server_table.proofs.NewIds.{found_links}
 use Rattle.roc_server_table.proofs.finding.taken_without.Goals as goal
 

@@ -1,5 +1,5 @@
 use Rattle.std.proofs.Common.{◌∙◌, List, ap}
-use Rattle.roc_server_table.specs.declared.rows.Row.{Row}
+use Rattle.roc_server_rows.specs.declared.rows.Row.{Row}
 use Rattle.roc_server_table.specs.Inner.Leading.{told_ids}
 use Rattle.roc_server_table.proofs.LedTo.{least_led}
 use Rattle.roc_server_table.proofs.leading.led_to.Goals as goal

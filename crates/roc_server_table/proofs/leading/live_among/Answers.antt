@@ -1,6 +1,6 @@
 use Rattle.std.proofs.Common.{get_or}
 use Rattle.std.proofs.lemmas.List.{get_or_default}
-use Rattle.roc_server_table.specs.Inner.Except.{no_link}
+use Rattle.roc_server_rows.specs.Except.{no_link}
 use Rattle.roc_server_table.proofs.LeadingRows.{live_more}
 use Rattle.roc_server_table.proofs.leading.live_among.Goals as goal
 

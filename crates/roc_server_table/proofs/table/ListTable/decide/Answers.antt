@@ -4,14 +4,14 @@ use Rattle.std.specs.declared.alloc.Global.{Global}
 use Rattle.roc_sequence.specs.Places.{IsListed, is_listed}
 use Rattle.roc_base.specs.declared.id.TxnId.{TxnId}
 use Rattle.roc_base.specs.TxnId.{is_txn}
-use Rattle.roc_server_table.specs.declared.rows.Row.{Row}
-use Rattle.roc_server_table.specs.declared.marks.Mark.{Mark}
+use Rattle.roc_server_rows.specs.declared.rows.Row.{Row}
+use Rattle.roc_server_rows.specs.declared.marks.Mark.{Mark}
 use Rattle.roc_server_table.specs.Kept.{TableLists}
 use Rattle.roc_server_table.specs.Inner.Kept.{decided_of}
 use Rattle.roc_depgraph.specs.Closure.{IsRisingListOf}
 use Rattle.roc_step.specs.New.{AreAllNew}
 use Rattle.roc_server_table.specs.Inner.Rising.{rising_ids}
-use Rattle.roc_server_table.specs.Inner.Rows.{links_of}
+use Rattle.roc_server_rows.specs.Rows.{row_links}
 use Rattle.roc_server_table.proofs.FilledMarks.{refilled}
 use Rattle.roc_server_table.proofs.RisingIds.{ids_added, order_is_new}
 use Rattle.roc_server_table.proofs.table.ListTable.decide.Goals as goal
@@ -19,8 +19,8 @@ use Rattle.roc_server_table.proofs.table.ListTable.decide.Goals as goal
 pub decide_all-requires-clause-new : goal.decide_all-requires-clause-new
 decide_all-requires-clause-new c =
     let rows = c.self.inside.parts.rows.items in
-    subst (λ (ms : List Mark). AreAllNew (IsListed is_txn (decided_of rows ms)) (links_of rows) c.args.ids.now) (sym c.deref_mut.ensures.value)
-    (order_is_new (decided_of rows c.self.inside.marks.items) (links_of rows) c.args.ids.now
+    subst (λ (ms : List Mark). AreAllNew (IsListed is_txn (decided_of rows ms)) (row_links rows) c.args.ids.now) (sym c.deref_mut.ensures.value)
+    (order_is_new (decided_of rows c.self.inside.marks.items) (row_links rows) c.args.ids.now
     (subst (λ (t : TableLists). AreAllNew (IsListed is_txn t.decided) t.links c.args.ids.now) (sym c.self.view_is) c.requires))
 
 pub returns-clause-decided : goal.returns-clause-decided

@@ -3,7 +3,7 @@ use Rattle.roc_sequence.specs.Places.{IsListed, is_listed}
 use Rattle.roc_sequence.proofs.Places.{listed_test}
 use Rattle.roc_depgraph.specs.Closure.{IsRisingListOf}
 use Rattle.roc_base.specs.declared.id.TxnId.{TxnId}
-use Rattle.roc_server_table.specs.declared.marks.Mark.{Mark}
+use Rattle.roc_server_rows.specs.declared.marks.Mark.{Mark}
 use Rattle.roc_server_table.specs.Inner.Kept.{decided_of}
 use Rattle.roc_server_table.specs.Inner.Rising.{rising_ids}
 use Rattle.roc_server_table.proofs.FilledMarks.{refilled}
@@ -11,16 +11,16 @@ use Rattle.roc_server_table.proofs.RisingIds.{ids_left, rising_of}
 use Rattle.roc_base.specs.TxnId.{is_txn}
 use Rattle.roc_step.specs.Links.{without_links}
 use Rattle.roc_server_table.specs.Kept.{TableLists}
-use Rattle.roc_server_table.specs.Inner.Changes.{KeptLists}
+use Rattle.roc_server_rows.specs.Changes.{RowLists}
 use Rattle.roc_server_table.proofs.table.ListTable.forget.Goals as goal
 
 pub returns-clause-known : goal.returns-clause-known
 returns-clause-known c =
-    ap (λ (k : KeptLists). k.known) c.end_all.ensures.lists ∙ ap (λ (t : TableLists). filter (λ k. not (is_listed is_txn c.args.ids.now k.of)) t.known) c.self.view_is
+    ap (λ (k : RowLists). k.known) c.end_all.ensures.lists ∙ ap (λ (t : TableLists). filter (λ k. not (is_listed is_txn c.args.ids.now k.of)) t.known) c.self.view_is
 
 pub returns-clause-links : goal.returns-clause-links
 returns-clause-links c =
-    ap (λ (k : KeptLists). k.links) c.end_all.ensures.lists
+    ap (λ (k : RowLists). k.links) c.end_all.ensures.lists
     ∙ ap (λ (t : TableLists). map (without_links (is_listed is_txn c.args.ids.now)) (filter (λ k. not (is_listed is_txn c.args.ids.now k.of)) t.links)) c.self.view_is
 
 pub end_all-requires-clause-decided : goal.end_all-requires-clause-decided

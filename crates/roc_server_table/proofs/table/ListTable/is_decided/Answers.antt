@@ -1,7 +1,7 @@
 use Rattle.std.proofs.Common.{◌∙◌, List, ap}
 use Rattle.roc_sequence.specs.Places.{is_listed}
 use Rattle.roc_base.specs.TxnId.{is_txn}
-use Rattle.roc_server_table.specs.declared.marks.Mark.{Mark}
+use Rattle.roc_server_rows.specs.declared.marks.Mark.{Mark}
 use Rattle.roc_server_table.specs.Kept.{TableLists}
 use Rattle.roc_server_table.specs.Inner.Kept.{decided_of}
 use Rattle.roc_server_table.proofs.RisingIds.{test_of}

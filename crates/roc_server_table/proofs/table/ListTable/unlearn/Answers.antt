@@ -2,9 +2,9 @@ use Rattle.std.proofs.Common.{◌∙◌, not, List, ap, filter}
 use Rattle.roc_sequence.specs.Places.{is_listed}
 use Rattle.roc_base.specs.TxnId.{is_txn}
 use Rattle.roc_depgraph.specs.Deps.{is_known}
-use Rattle.roc_server_table.specs.declared.marks.Mark.{Mark}
+use Rattle.roc_server_rows.specs.declared.marks.Mark.{Mark}
 use Rattle.roc_server_table.specs.Kept.{TableLists}
-use Rattle.roc_server_table.specs.Inner.Changes.{KeptLists}
+use Rattle.roc_server_rows.specs.Changes.{RowLists}
 use Rattle.roc_server_table.specs.Inner.Kept.{decided_of}
 use Rattle.roc_server_table.proofs.RisingIds.{test_of}
 use Rattle.roc_server_table.proofs.table.ListTable.unlearn.Goals as goal
@@ -17,8 +17,8 @@ unlearn_all-requires-clause-undecided c = λ k h.
 
 pub returns-clause-known : goal.returns-clause-known
 returns-clause-known c =
-    ap (λ (k : KeptLists). k.known) c.unlearn_all.ensures.lists ∙ ap (λ (t : TableLists). filter (λ k. not (is_known c.args.news.now k.of)) t.known) c.self.view_is
+    ap (λ (k : RowLists). k.known) c.unlearn_all.ensures.lists ∙ ap (λ (t : TableLists). filter (λ k. not (is_known c.args.news.now k.of)) t.known) c.self.view_is
 
 pub returns-clause-links : goal.returns-clause-links
 returns-clause-links c =
-    ap (λ (k : KeptLists). k.links) c.unlearn_all.ensures.lists ∙ ap (λ (t : TableLists). filter (λ k. not (is_known c.args.news.now k.of)) t.links) c.self.view_is
+    ap (λ (k : RowLists). k.links) c.unlearn_all.ensures.lists ∙ ap (λ (t : TableLists). filter (λ k. not (is_known c.args.news.now k.of)) t.links) c.self.view_is

@@ -1,7 +1,0 @@
-use Rattle.std.proofs.Common.{map, take}
-use Rattle.roc_server_table.specs.Inner.Except.{link_but, rows_but}
-use Rattle.roc_server_table.proofs.Waits.{AreFreeLinks}
-use Rattle.roc_server_table.proofs.marks.held_among.Given as goal
-
-abbrev pub invariant-loop-link : goal.invariant-loop-link
-invariant-loop-link l = AreFreeLinks (rows_but l.except l.rows) l.marks (take l.link-index (map (link_but l.except) l.links))
