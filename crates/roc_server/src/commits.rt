@@ -22,7 +22,8 @@ use roc_depgraph::KnownList;
 use roc_msg::{Outbox, Reason};
 use roc_plan::Plan;
 use roc_server_groups::is_here;
-use roc_server_lists::{ServerLists, commit_differs, is_unlike, news_of_commit, news_of_known};
+use roc_server_lists::ServerLists;
+use roc_server_news::{commit_differs, is_unlike, news_of_commit, news_of_known};
 use roc_server_table::ListTable;
 use std::alloc::Global;
 

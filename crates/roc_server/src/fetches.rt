@@ -16,7 +16,8 @@ use roc_await::Asker;
 use roc_base::{NoMemory, Node, Shard, TxnId};
 use roc_msg::{Msg, Outbox, Reason};
 use roc_server_groups::is_here;
-use roc_server_lists::{ServerLists, send_known};
+use roc_server_lists::ServerLists;
+use roc_server_news::send_known;
 
 // Tries to answer a fetch, or ignores it.
 pub(crate) fn try_fetch(

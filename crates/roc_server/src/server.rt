@@ -33,7 +33,7 @@ use roc_msg::{Msg, NodeFault, Outbox};
 use roc_plan::{Class, Plan};
 use roc_rows::Cell;
 use roc_server_groups::{Starting, entries};
-use roc_server_lists::send_fetches;
+use roc_server_news::send_fetches;
 use roc_server_reads::{Views, drop_reads};
 use std::alloc::Global;
 use std::marker::Model;

@@ -16,7 +16,7 @@ use roc_base::{Edges, NoMemory, Shard};
 use roc_group::Access;
 use roc_plan::{Known, Plan};
 use roc_server_groups::{Begun, Starting, begin_group, edges_for, is_immediate};
-use roc_server_lists::facts_for;
+use roc_server_news::facts_for;
 use std::alloc::Global;
 use std::marker::Brand;
 use std::sync::ledger::Blank;

@@ -16,7 +16,7 @@ use roc_depgraph::KnownList;
 use roc_msg::Outbox;
 use roc_plan::Plan;
 use roc_server_groups::{StartedGroups, send_commitok, send_commitoks};
-use roc_server_lists::{send_fetches, tell_all};
+use roc_server_news::{send_fetches, tell_all};
 use std::alloc::Global;
 
 // Tries that lists are taught, of transactions of which none is known, and that the commitok of `again` is sent once more.

@@ -25,7 +25,7 @@ use Rattle.roc_server_lists.specs.Inner.Keeping.{Forgets, IsOverOf}
 use Rattle.roc_server_lists.specs.Inner.Over.{TakenComponents}
 use Rattle.roc_server_lists.specs.Inner.Parts.{kept_in, AreConsistent, AreRight}
 use Rattle.roc_server_lists.specs.Inner.Trials.{lists_forgetting}
-use Rattle.roc_server_lists.proofs.FollowedLinks.{links_left}
+use Rattle.roc_server_news.proofs.FollowedLinks.{links_left}
 use Rattle.roc_server_lists.proofs.SomeLeft.{members, member_all, member_some, members_once, none_of_others, not_in_two, some_member}
 
 module _ (was : ListParts) (gone : List TxnId) (o : IsOverOf was gone) where

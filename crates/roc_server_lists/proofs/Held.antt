@@ -19,7 +19,7 @@ use Rattle.roc_server_lists.specs.Inner.Finding.{AreAlike}
 use Rattle.roc_server_lists.specs.Inner.Parts.{kept_in, AreConsistent}
 use Rattle.roc_server_lists.specs.Inner.Trials.{before, before_trial, lists_now, tried_of, AreHeld, IsTrial}
 use Rattle.roc_server_lists.proofs.RoomAside.{alike_kept, alike_sound}
-use Rattle.roc_server_lists.proofs.FollowedLinks.{links_known}
+use Rattle.roc_server_news.proofs.FollowedLinks.{links_known}
 
 -- ---- nothing is tried
 

@@ -27,8 +27,8 @@ use Rattle.roc_server_lists.specs.ListsNow.{AreOver}
 use Rattle.roc_server_lists.specs.Inner.Keeping.{IsOverOf, KeepsFound}
 use Rattle.roc_server_lists.specs.Inner.Parts.{kept_in, AreRight}
 use Rattle.roc_server_lists.specs.Inner.Trials.{unlearnt, with_lists, AreListsTried}
-use Rattle.roc_server_lists.proofs.Learning.{keeps_front}
-use Rattle.roc_server_lists.proofs.NotOfNews.{unknown_not_of}
+use Rattle.roc_server_news.proofs.Learning.{keeps_front}
+use Rattle.roc_server_news.proofs.NotOfNews.{unknown_not_of}
 
 -- what is listed among components, old and new
 pub among_more : (old more : List (List TxnId)) (t : TxnId) → IsListed is_txn (flat_map (λ c. c) (old ++ more)) t → IsListed is_txn (flat_map (λ c. c) old) t ⊎ IsListed is_txn (flat_map (λ c. c) more) t

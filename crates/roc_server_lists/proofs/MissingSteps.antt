@@ -29,8 +29,8 @@ use Rattle.roc_server_lists.specs.ListsNow.{IsNoneLeft}
 use Rattle.roc_server_lists.specs.Inner.Finding.{asked_by, is_done_at, is_missing_at, links_at, missing_at}
 use Rattle.roc_server_lists.specs.Inner.Parts.{kept_in, AreRight}
 use Rattle.roc_server_lists.proofs.AlikeTests.{filter_alike, map_alike}
-use Rattle.roc_server_lists.proofs.FollowedLinks.{followed_among_all}
-use Rattle.roc_server_lists.proofs.Learning.{keeps_front}
+use Rattle.roc_server_news.proofs.FollowedLinks.{followed_among_all}
+use Rattle.roc_server_news.proofs.Learning.{keeps_front}
 use Rattle.roc_server_lists.proofs.LeftOut.{missing_of_news}
 
 module _ (shard : Shard) (started : List StartedGroup) (old : ListParts) (h : AreRight old) (left : IsNoneLeft started (kept_in old).lists) (news : List KnownList) where

@@ -27,7 +27,7 @@ use Rattle.roc_server_lists.specs.Inner.Keeping.{IsOverOf}
 use Rattle.roc_server_lists.specs.Inner.Over.{TakenComponents}
 use Rattle.roc_server_lists.specs.Inner.Parts.{kept_in, AreRight}
 use Rattle.roc_server_lists.specs.Inner.Trials.{links_settled, with_settled, AreMarksTried, IsSettledTried}
-use Rattle.roc_server_lists.proofs.FollowedLinks.{links_later, links_marked}
+use Rattle.roc_server_news.proofs.FollowedLinks.{links_later, links_marked}
 use Rattle.roc_server_lists.proofs.LessonSteps.{among_more, more_among, once_more, some_more}
 use Rattle.roc_server_lists.proofs.MarkedLinks.{marked_known, still_decided}
 use Rattle.roc_server_lists.proofs.OneSettled as one

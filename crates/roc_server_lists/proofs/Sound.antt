@@ -29,8 +29,8 @@ use Rattle.roc_server_lists.specs.declared.trial.Trial.TheVariants.{Asker, Lists
 use Rattle.roc_server_lists.specs.ListsNow.{lists_behind, newly_of, over_of, AreOver, AreSound, ListsNow}
 use Rattle.roc_server_lists.specs.Inner.Parts.{AreRight}
 use Rattle.roc_server_lists.specs.Inner.Trials.{links_settled, lists_now, unlearnt, AreHeld, AreListsTried, AreMarksTried, IsSettledTried}
-use Rattle.roc_server_lists.proofs.FollowedLinks.{links_ids}
-use Rattle.roc_server_lists.proofs.Learning.{keeps_front}
+use Rattle.roc_server_news.proofs.FollowedLinks.{links_ids}
+use Rattle.roc_server_news.proofs.Learning.{keeps_front}
 use Rattle.roc_server_lists.proofs.LeftSteps.{left_decide, links_left}
 use Rattle.roc_server_lists.proofs.MarkedLinks.{still_decided}
 use Rattle.roc_server_lists.proofs.SomeLeft.{member_all, members}

@@ -31,7 +31,7 @@ use Rattle.roc_server_lists.specs.ListsNow.{lists_of, AreOver, IsNoneLeft, IsTau
 use Rattle.roc_server_lists.specs.Inner.Finding.{asked_by, is_done_at, is_missing_at, links_at, missing_at, AreAlike, AreIdsSame, Finds, Learns}
 use Rattle.roc_server_lists.specs.Inner.Parts.{kept_in, AreConsistent}
 use Rattle.roc_server_lists.specs.Inner.Trials.{after, front, lists_forgetting, tried_of, unlearnt, with_lists, AreLearnt, AreListsTried, HasRoomToKeep}
-use Rattle.roc_server_lists.proofs.FollowedLinks.{links_ids, links_learnable, links_learnt}
+use Rattle.roc_server_news.proofs.FollowedLinks.{links_ids, links_learnable, links_learnt}
 use Rattle.roc_server_lists.proofs.LeftOut.{missing_unknown, none_after}
 use Rattle.roc_server_lists.proofs.MissingSteps.{missing_is}
 use Rattle.roc_server_lists.proofs.NoneLeft.{left_forgetting}

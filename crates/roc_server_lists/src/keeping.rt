@@ -10,12 +10,12 @@ ghost use Rattle.roc_server_lists.specs.Inner.Keeping.{Forgets, IsOverOf, KeepsF
 ghost use Rattle.roc_server_lists.specs.Inner.Parts.{kept_in, AreConsistent};
 ghost use Rattle.roc_server_lists.specs.Inner.Trials.{after, before_trial, links_settled, lists_forgetting, unlearnt, AreListsTried, AreMarksTried, HasRoomToKeep, IsSettledTried, IsTrial};
 
-use crate::asks::wait_for;
 use crate::parts::ListParts;
 use crate::trial::{Found, Heard, Lesson, Settling, Trial};
 use roc_await::{Asker, Waits};
 use roc_base::TxnId;
 use roc_depgraph::KnownList;
+use roc_server_news::wait_for;
 use roc_server_table::ListTable;
 
 // What was tried is kept.

@@ -3,12 +3,12 @@ ghost use Rattle.std.specs.Prelude.{◌≡◌, IfOk, OnErr};
 ghost use Rattle.roc_step.specs.Learning.{AreLearnable};
 ghost use Rattle.roc_server_lists.specs.Inner.Finding.{Learns};
 
-use crate::asks::all_edges;
 use crate::missing::done_of;
 use crate::parts::ListParts;
 use roc_base::{Edges, NoMemory, Shard, TxnId};
 use roc_depgraph::KnownList;
 use roc_server_groups::StartedGroups;
+use roc_server_news::all_edges;
 use std::alloc::Global;
 
 // What new lists name, by id, and the transactions among it of which the entries are done, rising.

@@ -4,7 +4,7 @@ use Rattle.roc_base.specs.TxnId.{is_txn}
 use Rattle.roc_sequence.specs.Places.{is_listed}
 use Rattle.roc_step.specs.Carried.{carried, unknown_of}
 use Rattle.roc_step.specs.Learning.{AreLearnable}
-use Rattle.roc_server_lists.proofs.Learnable.{carried_learnable}
+use Rattle.roc_server_news.proofs.Learnable.{carried_learnable}
 use Rattle.roc_server_lists.specs.ListsNow.{over_of}
 use Rattle.roc_server.specs.Inner.Parts.{state_behind, state_of}
 use Rattle.roc_server.specs.Inner.Taught.{Commits}
