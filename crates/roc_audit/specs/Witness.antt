@@ -1,5 +1,5 @@
 -- When a serial order explains a history: docs/PROTOCOL.md, "Serial witness"
-use Rattle.std.specs.Prelude.{◌≡◌, ℕ, ℤ, List, [], ◌∷◌, Option, Some, None, if◌then◌else◌}
+use Rattle.std.specs.Prelude.{◌≡◌, ℤ, List, [], ◌∷◌, Option, Some, None, if◌then◌else◌}
 use Rattle.std.specs.List.{filter_map}
 use Rattle.roc_sequence.specs.Places.{IsListed, IsListedBefore, NoneTwice}
 use Rattle.roc_base.specs.declared.id.TxnId.{TxnId}

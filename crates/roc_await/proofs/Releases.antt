@@ -1,10 +1,9 @@
 -- Lists without the entries that name some transactions of which no list is known
-use Rattle.std.proofs.Common.{◌≡◌, ◌⊎◌, inl, inr, ◌<◌, Bool, true, false, not, List, [], length, filter, map, Option, Some, None, is_some, unwrap_or, IsTrue, refl, sym, ap, subst, ◌∙◌}
+use Rattle.std.proofs.Common.{◌≡◌, inl, inr, ◌<◌, Bool, true, false, not, List, [], length, filter, Option, Some, None, is_some, unwrap_or, IsTrue, refl, sym, ap, subst, ◌∙◌}
 use Rattle.std.proofs.lemmas.Bool.{false≢true, not-true, not_from_false}
 use Rattle.std.proofs.lemmas.List.Kept.{IsStrictlySortedBy-filter}
 use Rattle.std.specs.List.{list_any}
 use Rattle.std.specs.Option.{option_map}
-use Rattle.roc_sequence.specs.Lists.{Has}
 use Rattle.roc_sequence.specs.Places.{is_listed}
 use Rattle.roc_sequence.proofs.Filtered.{from_listed_filter, listed_filter}
 use Rattle.roc_sequence.proofs.Holds.{all_has, any_has, has_any}
@@ -16,7 +15,7 @@ use Rattle.roc_base.specs.Equalities.{is_txn-true}
 use Rattle.roc_base.specs.Edge.{Dependency}
 use Rattle.roc_depgraph.specs.declared.known.KnownList.{KnownList}
 use Rattle.roc_depgraph.specs.Deps.{list_of, is_known, Precedes, IsKnown, IsDecided}
-use Rattle.roc_depgraph.specs.Reach.{Reaches, direct, through, ReachesOrIs}
+use Rattle.roc_depgraph.specs.Reach.{Reaches, direct, through}
 use Rattle.roc_depgraph.proofs.Chains.{weaker_chain}
 use Rattle.roc_depgraph.proofs.Listed.{has_under}
 use Rattle.roc_await.specs.declared.lack.Lack.{Lack}

@@ -1,5 +1,5 @@
 -- Groups of lacks without some of what was missing, one after another
-use Rattle.std.proofs.Common.{◌≡◌, ℕ, ◌+◌, ◌<◌, List, ◌++◌, get_or, length, take, refl, sym, ap, subst, ◌∙◌, inl, inr}
+use Rattle.std.proofs.Common.{◌≡◌, ℕ, ◌+◌, ◌<◌, List, ◌++◌, get_or, length, take, refl, sym, subst, inl, inr}
 use Rattle.roc_sequence.specs.Lists.{Has}
 use Rattle.roc_sequence.proofs.Members.{has_append, has_left, has_right, has_map, from_has_map}
 use Rattle.roc_base.specs.declared.id.TxnId.{TxnId}

@@ -1,5 +1,5 @@
 -- Sets of pieces: one piece more, and the pieces of two sets
-use Rattle.std.proofs.Common.{◌≡◌, ◌≢◌, ℕ, ◌+◌, ◌*◌, ◌^◌, ◌%◌, ◌<◌, ◌≤◌, max, Bool, true, false, ◌&&◌, ◌||◌, ◌==◌, List, length, get_or, set, refl, sym, ap, subst, ◌∙◌, inl, inr, w16, arith}
+use Rattle.std.proofs.Common.{◌≡◌, ℕ, ◌+◌, ◌*◌, ◌^◌, ◌%◌, ◌<◌, ◌≤◌, max, Bool, true, false, ◌&&◌, ◌||◌, ◌==◌, List, length, get_or, set, sym, ap, ◌∙◌, inl, inr, w16, arith}
 use Rattle.std.proofs.lemmas.Bool.{cases_eq, cases_lt}
 use Rattle.std.proofs.lemmas.Bool.Decides.{nat_tests}
 use Rattle.std.proofs.lemmas.List.{length-set, get_or-set_same, get_or-set_other, get_or_past}
@@ -7,7 +7,7 @@ use Rattle.std.proofs.lemmas.Nat.Bits.{bit_at-lt, bit_at-zero, bit_at_or, bit_at
 use Rattle.std.specs.Int.{bit_at}
 use Rattle.std.specs.Int.RustNames.{bit_or}
 use Rattle.roc_program.specs.declared.piece_id.PieceId.{PieceId}
-use Rattle.roc_check.specs.Inner.PieceSets.{word, holds, is_piece}
+use Rattle.roc_check.specs.Inner.PieceSets.{word, holds}
 
 not_more : (x b d : Bool) → b ≡ false → x ≡ (x || (b && d))
 not_more x b d h = grind (arith, nat_tests)

@@ -1,5 +1,5 @@
 -- The first fault of a cluster file is one, and so is that of a request file of a program
-use Rattle.std.proofs.Common.{◌≡◌, ◌⊎◌, inl, inr, ℕ, List, [], ◌∷◌, ◌++◌, Some, None, refl, sym, ap, subst, ◌∙◌}
+use Rattle.std.proofs.Common.{◌≡◌, ◌⊎◌, inl, inr, ℕ, List, [], ◌∷◌, ◌++◌, Some, refl, sym, ap, subst, ◌∙◌}
 use Rattle.std.proofs.lemmas.Option.{none-some, same_Some}
 use Rattle.roc_program.specs.Program.{Workload}
 use Rattle.roc_cluster.specs.declared.fault.ClusterFault.{ClusterFault}

@@ -1,6 +1,5 @@
 -- The pairs of all logs have the chains of goes-before
-use Rattle.std.proofs.Common.{◌≡◌, ◌≢◌, ℤ, Bool, true, false, cond, List, [], ◌∷◌, ◌++◌, refl, sym, ap, subst, ◌∙◌, ◌⊎◌, inl, inr}
-use Rattle.std.proofs.lemmas.Bool.{false≢true}
+use Rattle.std.proofs.Common.{◌≡◌, ◌≢◌, Bool, true, false, cond, List, [], ◌∷◌, sym, ap, subst, ◌∙◌, inl, inr}
 use Rattle.std.specs.List.{filter, flat_map}
 use Rattle.roc_sequence.specs.Lists.{Has}
 use Rattle.roc_sequence.specs.Places.{IsListed, is_listed}
@@ -20,7 +19,7 @@ use Rattle.roc_precedence.specs.declared.pair.Pair.{Pair}
 use Rattle.roc_precedence.specs.Pairs.{IsPaired}
 use Rattle.roc_precedence.specs.Orders.{HaveSameChains}
 use Rattle.roc_judge.specs.declared.folded.Folded.{Folded}
-use Rattle.roc_judge.specs.Before.{StandsBefore, do_meet, RunsFirst, RunsAlone, IsBeforeIn, GoesBefore, candidates, told}
+use Rattle.roc_judge.specs.Before.{StandsBefore, IsBeforeIn, GoesBefore, candidates, told}
 use Rattle.roc_judge.specs.Judged.{AnsweredAreDecided}
 use Rattle.roc_judge.specs.Inner.Uses.{nobody, walk}
 use Rattle.roc_judge.specs.Inner.Times.{time_walk}

@@ -1,5 +1,5 @@
 -- The pairs of one server's accesses lead where accesses that meet do, and nowhere else
-use Rattle.std.proofs.Common.{◌≡◌, ◌≢◌, Bool, true, false, cond, if◌then◌else◌, ◌&&◌, ◌||◌, List, [], ◌∷◌, ◌++◌, Option, Some, None, refl, sym, ap, subst, ◌∙◌, ◌⊎◌, inl, inr}
+use Rattle.std.proofs.Common.{◌≡◌, ◌≢◌, Bool, true, false, if◌then◌else◌, ◌&&◌, ◌||◌, List, [], ◌∷◌, Option, Some, None, refl, sym, ap, subst, ◌∙◌, ◌⊎◌, inl, inr}
 use Rattle.std.proofs.lemmas.Bool.{and_parts}
 use Rattle.std.specs.List.{flat_map}
 use Rattle.roc_sequence.specs.Lists.{Has}
@@ -11,11 +11,10 @@ use Rattle.roc_base.proofs.Ids.{is_txn-false}
 use Rattle.roc_rows.specs.declared.cell.Cell.{Cell}
 use Rattle.roc_rows.specs.Cells.{is_cell}
 use Rattle.roc_rows.proofs.CellLaws.{is_cell-true, is_cell-same}
-use Rattle.roc_depgraph.specs.Reach.{Reaches, ReachesOrIs, direct, through}
+use Rattle.roc_depgraph.specs.Reach.{ReachesOrIs, direct}
 use Rattle.roc_depgraph.proofs.Chains.{joined_chain}
 use Rattle.roc_msg.specs.declared.outbox.Ran.{Ran}
 use Rattle.roc_precedence.specs.declared.pair.Pair.{Pair}
-use Rattle.roc_precedence.specs.Pairs.{IsPaired}
 use Rattle.roc_judge.specs.Before.{StandsBefore, do_meet}
 use Rattle.roc_judge.specs.Inner.Uses.{Last, nobody, pair_with, pair_writer, pair_readers, pairs_for, last_after, step, walk}
 

@@ -1,5 +1,5 @@
 -- What is found is right
-use Rattle.std.proofs.Common.{◌≡◌, ◌≢◌, ◌↔◌, ℕ, ℤ, Bool, true, false, not, cond, List, [], ◌∷◌, ◌++◌, length, filter, find, Option, Some, None, is_none, unwrap_or, refl, sym, ap, subst, ◌∙◌, ◌⊎◌}
+use Rattle.std.proofs.Common.{◌≡◌, ◌≢◌, ℕ, ℤ, Bool, true, false, not, cond, List, [], ◌∷◌, ◌++◌, length, filter, find, Option, Some, None, is_none, unwrap_or, refl, sym, ap, subst, ◌∙◌, ◌⊎◌}
 use Rattle.std.proofs.Common.{inl, inr, arith}
 use Rattle.std.proofs.lemmas.Bool.{false≢true}
 use Rattle.std.proofs.lemmas.List.{length-append}
@@ -8,11 +8,10 @@ use Rattle.std.specs.List.Sorted.{IsStrictlySortedBy}
 use Rattle.roc_sequence.specs.Lists.{Has}
 use Rattle.roc_sequence.specs.Places.{IsListed, is_listed}
 use Rattle.roc_sequence.proofs.Found.{found_has, none_found}
-use Rattle.roc_sequence.proofs.Members.{has_left, has_right, has_append, has_flat_map, from_has_flat_map}
+use Rattle.roc_sequence.proofs.Members.{has_right, has_flat_map, from_has_flat_map}
 use Rattle.roc_sequence.proofs.Places.{listed_true, listed_test, listed_false, listed_or_not}
 use Rattle.roc_base.specs.declared.id.TxnId.{TxnId}
 use Rattle.roc_base.specs.TxnId.{is_txn, txn_cmp, txn_lt}
-use Rattle.roc_base.specs.Equality.{is_nums}
 use Rattle.roc_base.specs.Equalities.{is_txn-true, is_txn-same, Decides-is_nums}
 use Rattle.roc_base.proofs.Ids.{txn_lt-itself, txn_lt-asym}
 use Rattle.roc_depgraph.specs.Closure.{IsRisingListOf}
@@ -25,7 +24,7 @@ use Rattle.roc_whole.specs.Serial.{Call, run_of, start_store, serial_answers, se
 use Rattle.roc_audit.specs.declared.entry.Entry.{Entry}
 use Rattle.roc_audit.specs.declared.entry.Entry.TheVariants.{Submitted, Answered}
 use Rattle.roc_audit.specs.History.{WasSubmitted, WasAnswered}
-use Rattle.roc_audit.specs.Witness.{submitted_call, submitted_calls, serial_reply_from, reply_in}
+use Rattle.roc_audit.specs.Witness.{submitted_call, serial_reply_from, reply_in}
 use Rattle.roc_audit.proofs.Histories.{call_of-submitted, call_of-id, call_of-from}
 use Rattle.roc_component.specs.Components.{among}
 use Rattle.roc_precedence.specs.declared.pair.Pair.{Pair}
@@ -39,10 +38,10 @@ use Rattle.roc_judge.specs.declared.calls.Called.{Called}
 use Rattle.roc_judge.specs.declared.judgement.Judgement.{Judgement}
 use Rattle.roc_judge.specs.declared.judgement.Judgement.TheVariants.{Missing, Unsubmitted, Cycle, Reply, Yes}
 use Rattle.roc_judge.specs.Before.{GoesBefore, candidates, told}
-use Rattle.roc_judge.specs.Judged.{AnsweredAreDecided, DecidedAreSubmitted, RepliesAreRight, IsAnsweredUndecided, IsUnsubmitted, IsLeastId, IsJudged, tells_answer, answers_told, one_missing}
-use Rattle.roc_judge.specs.Judged.{one_unsubmitted, a_circle, a_wrong_reply}
+use Rattle.roc_judge.specs.Judged.{AnsweredAreDecided, DecidedAreSubmitted, RepliesAreRight, IsAnsweredUndecided, IsUnsubmitted, IsJudged, tells_answer, answers_told}
+use Rattle.roc_judge.specs.Judged.{a_circle, a_wrong_reply}
 use Rattle.roc_judge.specs.Judged.{explained}
-use Rattle.roc_judge.specs.Inner.Sets.{answered_id, answered_ids, all_answered, call_in, first_of, only_at}
+use Rattle.roc_judge.specs.Inner.Sets.{answered_ids, all_answered, call_in, first_of}
 use Rattle.roc_judge.specs.Inner.Replies.{IsReplied, none_wrong, one_wrong, first_wrong, wrong_of, wrong_at, is_right}
 use Rattle.roc_judge.specs.Inner.Found.{AreCandidates, AreReady, IsLeastOrNone, IsCycleOf}
 use Rattle.roc_judge.specs.Inner.Pairs.{fold_pairs}

@@ -1,6 +1,5 @@
 -- Behind a `Yes` the order vouches for what the logs tell
-use Rattle.std.proofs.Common.{◌≡◌, ℕ, ℤ, List, [], ◌∷◌, ◌++◌, map, Some, refl, sym, ap, subst, ◌∙◌, inl, inr}
-use Rattle.std.specs.List.{flat_map}
+use Rattle.std.proofs.Common.{◌≡◌, ℕ, List, [], ◌∷◌, ◌++◌, map, Some, refl, sym, ap, subst, inr}
 use Rattle.roc_sequence.specs.Lists.{Has}
 use Rattle.roc_sequence.specs.Places.{IsListed, IsListedBefore}
 use Rattle.roc_sequence.proofs.Members.{has_flat_map, from_has_map}
@@ -15,10 +14,9 @@ use Rattle.roc_audit.specs.Witness.{serial_reply_from}
 use Rattle.roc_audit.proofs.Histories.{answered_by_before}
 use Rattle.roc_precedence.specs.Orders.{IsLeastOrder}
 use Rattle.roc_judge.specs.declared.folded.Folded.{Folded}
-use Rattle.roc_judge.specs.declared.judgement.Judgement.{Judgement}
-use Rattle.roc_judge.specs.declared.judgement.Judgement.TheVariants.{Missing, Unsubmitted, Cycle, Reply, Yes}
+use Rattle.roc_judge.specs.declared.judgement.Judgement.TheVariants.{Yes}
 use Rattle.roc_judge.specs.Before.{GoesBefore, candidates, told}
-use Rattle.roc_judge.specs.Judged.{AnsweredAreDecided, DecidedAreSubmitted, RepliesAreRight, IsJudged, one_missing, one_unsubmitted, a_circle, a_wrong_reply, explained}
+use Rattle.roc_judge.specs.Judged.{AnsweredAreDecided, DecidedAreSubmitted, RepliesAreRight, IsJudged, explained}
 use Rattle.roc_judge.specs.Vouched.{IsVouched, all_told}
 
 -- what a `Yes` rests on

@@ -1,18 +1,17 @@
 -- Each file is empty, recovers a server, or is refused at one place
-use Rattle.std.proofs.Common.{◌≡◌, ◌⊎◌, inl, inr, ℕ, ◌+◌, ◌<◌, ◌≤◌, List, [], ◌∷◌, ◌++◌, length, refl, sym, ap, subst, ◌∙◌, arith, append_assoc, length-append}
+use Rattle.std.proofs.Common.{◌≡◌, ◌⊎◌, inl, inr, ℕ, ◌+◌, ◌≤◌, List, [], ◌∷◌, ◌++◌, length, refl, sym, ap, subst, ◌∙◌, arith, append_assoc, length-append}
 use Rattle.std.proofs.lemmas.List.{append-nil}
 use Rattle.std.specs.List.{AllByRecursion}
 use Rattle.roc_sequence.proofs.Appended.{same_more}
 use Rattle.roc_base.specs.declared.node.Shard.{Shard}
 use Rattle.roc_plan.specs.Groups.{Plan}
-use Rattle.roc_wire.specs.Reading.{IsBytes}
 use Rattle.roc_journal.specs.declared.record.Record.{Record}
 use Rattle.roc_journal.specs.Faults.{IsBadRecord, IsFault, magic_is_wrong, tag_is_wrong, gate_is_missing, record_is_bad}
 use Rattle.roc_journal.specs.Format.{magic, head, record_bytes, opened, IsRecordOf, IsJournal}
 use Rattle.roc_journal.specs.Laws.{HasRecords, HasFault}
 use Rattle.roc_journal.proofs.Beginnings.{SpelledApart}
 use Rattle.roc_journal.proofs.Ends.{first_of}
-use Rattle.roc_journal.proofs.Fronts.{GoesOn, one_goes_on, ended_here, all_front}
+use Rattle.roc_journal.proofs.Fronts.{one_goes_on, ended_here, all_front}
 use Rattle.roc_journal.proofs.Walks.{Ends, only_end, no_fault, one_fault}
 use Rattle.roc_step.specs.Restarts.{IsKeptFold}
 use Rattle.roc_step.specs.State.{ServerState, Viewing}

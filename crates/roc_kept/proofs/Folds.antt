@@ -1,8 +1,8 @@
 -- Messages that a server took, one by one: each of them was taken behind those before it
-use Rattle.std.proofs.Common.{◌≡◌, ◌⊎◌, inl, inr, Bool, true, false, List, [], ◌∷◌, ◌++◌, map, refl, sym, ap, subst, ◌∙◌, append_assoc}
+use Rattle.std.proofs.Common.{◌≡◌, ◌⊎◌, inl, inr, Bool, true, false, List, [], ◌∷◌, ◌++◌, refl, sym, ap, subst, ◌∙◌, append_assoc}
 use Rattle.std.proofs.lemmas.Bool.{false≢true}
 use Rattle.std.proofs.lemmas.List.{append-nil, map-append}
-use Rattle.roc_sequence.proofs.Appended.{empty_more, same_more}
+use Rattle.roc_sequence.proofs.Appended.{same_more}
 use Rattle.roc_base.specs.declared.node.Shard.{Shard}
 use Rattle.roc_journal.specs.declared.record.Record.{Record}
 use Rattle.roc_msg.specs.declared.msg.Msg.{Msg}

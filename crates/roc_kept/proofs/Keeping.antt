@@ -1,5 +1,5 @@
 -- What a record leaves on a disk, of a server that stands for its journal
-use Rattle.std.proofs.Common.{◌≡◌, inl, inr, ℕ, Bool, true, false, cond, Option, None, List, [], ◌∷◌, ◌++◌, Result, Ok, Err, map, refl, sym, ap, subst, ◌∙◌, OnOk, IfOk, Some, IfSome, append_assoc}
+use Rattle.std.proofs.Common.{◌≡◌, inl, inr, ℕ, Bool, true, false, cond, Option, None, List, [], ◌∷◌, ◌++◌, map, refl, sym, ap, subst, ◌∙◌, Some, IfSome}
 use Rattle.std.proofs.lemmas.List.{map-append}
 use Rattle.roc_base.specs.declared.node.Shard.{Shard}
 use Rattle.roc_disk.specs.declared.disk.Disk.{Ghosts as DiskOf}

@@ -1,5 +1,5 @@
 -- Opening: records that are taken one by one
-use Rattle.std.proofs.Common.{IfSome, ◌≡◌, ◌⊎◌, inl, inr, ℕ, ◌+◌, ◌<◌, Bool, true, false, List, [], ◌∷◌, ◌++◌, length, map, Option, Some, None, Result, Ok, Err, refl, sym, ap, subst, ◌∙◌, arith}
+use Rattle.std.proofs.Common.{IfSome, ◌≡◌, ◌⊎◌, inl, inr, ℕ, ◌+◌, Bool, true, false, List, [], ◌∷◌, ◌++◌, length, map, Some, None, Result, Ok, Err, refl, sym, ap, subst, ◌∙◌}
 use Rattle.std.proofs.lemmas.List.{map-append}
 use Rattle.roc_base.specs.declared.node.Shard.{Shard}
 use Rattle.roc_disk.specs.declared.disk.Disk.{Ghosts as DiskOf}
@@ -14,12 +14,11 @@ use Rattle.roc_journal.specs.declared.journal.Journal.{Journal}
 use Rattle.roc_journal.specs.Settled.{IsDurable, IsSynced, IsUnmade}
 use Rattle.roc_journal.specs.declared.reader.Reader.{Reader}
 use Rattle.roc_journal.specs.declared.record.Record.{Record}
-use Rattle.roc_journal.specs.declared.fault.ReadFault.{ReadFault}
 use Rattle.roc_journal.specs.Faults.{IsBadRecord}
 use Rattle.roc_journal.specs.Format.{head, opened, IsJournal}
-use Rattle.roc_journal.specs.Reading.{IsReadTo, ReadsNext}
+use Rattle.roc_journal.specs.Reading.{IsReadTo}
 use Rattle.roc_step.specs.declared.handled.Handled.{Handled}
-use Rattle.roc_step.specs.Reads.{first_viewing, is_taken, AnswersReads, ReadStep}
+use Rattle.roc_step.specs.Reads.{first_viewing, is_taken}
 use Rattle.roc_server.specs.Ahead.{ServingFits, IsMadeFor}
 use Rattle.roc_step.specs.Fits.{AreReadsOf, ServerFits}
 use Rattle.roc_step.specs.First.{first_server}
@@ -27,8 +26,7 @@ use Rattle.roc_step.specs.Restarts.{without_reads, IsKeptFold, nothing_kept, one
 use Rattle.roc_kept.specs.declared.keeper.Keeper.{Keeper}
 use Rattle.roc_kept.specs.Kept.{messages_in, IsFrom, IsKeptOn, StandsForSome}
 use Rattle.roc_server.specs.State.{Serving}
-use Rattle.roc_step.specs.State.{ServerState, ServerStep, Viewing}
-use Rattle.roc_step.specs.Step.{Handles}
+use Rattle.roc_step.specs.State.{ServerState, Viewing}
 use Rattle.roc_kept.specs.declared.fault.OpenFault.{OpenFault}
 use Rattle.roc_kept.specs.declared.fault.OpenFault.TheVariants.{Journal as NoJournal, Disk, NoMemory}
 use Rattle.roc_kept.specs.Opening.{opening_failed, GivesSome, IsIgnoredRecord, IsRefusedAt, record_is_none, IsTakenTo, IsFurther, TakesAgain, TakesNext, TakesAll, AreAllTaken, IsSettledFor, HoldsTheSame, LeftByOpening, OpensAs, RefusesRightly}

@@ -5,7 +5,7 @@ use Rattle.std.specs.List.{AllByRecursion}
 use Rattle.roc_lang.specs.Tokens.{Token}
 use Rattle.roc_lang.specs.Syntax.{Expression, Access, Statement, Piece, Procedure, Table, Init, Name, Tree}
 use Rattle.roc_lang.specs.Grammar as grammar
-use Rattle.roc_lang.specs.Grammar.{Limits, standard, Each, none, first, Separated, last, more, IsExpression, IsTerm, IsAtom, IsPair, IsAccess, access, IsStatement, IsPiece, piece, IsArguments, no_arguments, arguments, IsProcedure, procedure, IsArity, one, said, IsTable, table, IsText, text}
+use Rattle.roc_lang.specs.Grammar.{standard, Each, none, first, Separated, last, more, IsExpression, IsTerm, IsAtom, IsPair, IsAccess, access, IsStatement, IsPiece, piece, IsArguments, no_arguments, arguments, IsProcedure, procedure, IsArity, one, said, IsTable, table, IsText, text}
 use Rattle.roc_lang.specs.Limits.{IsSmallTable, IsSmallProcedure, IsSmallTree, AreWords, AreStatementWords, ArePieceWords, AreInitWords, IsWithinLimits}
 
 -- what holds of each that a rule takes holds of all

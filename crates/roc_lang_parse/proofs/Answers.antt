@@ -4,7 +4,7 @@ use Rattle.std.specs.Prelude.{Result, Ok, Err, IfOk, IfErr}
 use Rattle.std.proofs.lemmas.List.{append-nil}
 use Rattle.roc_lang.specs.Syntax.{Tree}
 use Rattle.roc_lang.specs.Tokens as tokens
-use Rattle.roc_lang.specs.Tokens.{Kind, Token, IsTokens}
+use Rattle.roc_lang.specs.Tokens.{Token, IsTokens}
 use Rattle.roc_lang.specs.Grammar.{Limits, standard, IsText, text_limit}
 use Rattle.roc_lang.specs.declared.source.Source.{Source}
 use Rattle.roc_lang.specs.declared.fault.LangError.{LangError}

@@ -3,7 +3,7 @@ use Rattle.std.proofs.Common.{◌≡◌, ℕ, suc, ◌+◌, ◌<◌, ◌≤◌, 
 use Rattle.roc_lang.specs.Tokens.{Kind, Token, IsTokens}
 use Rattle.roc_lang.specs.Syntax.{Name, Expression, Access, Statement, Piece, Procedure, Table, Init, Tree}
 use Rattle.roc_lang.specs.Grammar as grammar
-use Rattle.roc_lang.specs.Grammar.{Limits, standard, text_limit, IsToken, IsName, IsInteger, IsSigned, Each, Separated, IsExpression, IsTerm, IsAtom, IsPair, IsWordAt, IsIdEnd, IsAccess, IsStatement, IsPiece, IsArguments}
+use Rattle.roc_lang.specs.Grammar.{Limits, standard, text_limit, IsToken, IsName, IsSigned, Each, Separated, IsExpression, IsTerm, IsAtom, IsPair, IsWordAt, IsIdEnd, IsAccess, IsStatement, IsPiece, IsArguments}
 use Rattle.roc_lang.specs.Grammar.{IsOpening, IsProcedure, IsArity, IsTable, IsInit, IsShards, IsText}
 use Rattle.roc_lang_parse.proofs.Counted.{few_tokens}
 

@@ -5,7 +5,7 @@ use lib.Chars.{codes}
 use Rattle.roc_lang.specs.Syntax.{Name, Expression, Access, Statement, Get, Set, Out}
 use Rattle.roc_lang.specs.Tokens.{Kind, Word, Integer, Mark, Token}
 use Rattle.roc_lang.specs.Grammar as grammar
-use Rattle.roc_lang.specs.Grammar.{Limits, last, IsWordAt, IsIdEnd, IsToken, IsMark, IsName, IsInteger, IsSigned, plain, negated, IsExpression, IsAccess, access, IsStatement, open_bracket, close_bracket, comma, semicolon, dot, equals, minus, plus, star}
+use Rattle.roc_lang.specs.Grammar.{Limits, last, IsWordAt, IsIdEnd, IsName, IsSigned, plain, negated, IsExpression, IsAccess, access, IsStatement, open_bracket, close_bracket, comma, semicolon, dot, equals, minus}
 use Rattle.roc_lang_parse.specs.Stuck.{head_is}
 use Rattle.roc_lang_parse.specs.Parts.{has_word, has_mark, integer_at, negated_at, mark_at, signed_at}
 use Rattle.roc_lang_parse.specs.Reading.{Deep, deep_at, expression_at, id_at, access_at, get_at, set_at, out_at, statement_at, starts_statement, row_at}

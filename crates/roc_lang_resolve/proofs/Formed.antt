@@ -11,7 +11,7 @@ use Rattle.roc_lang.specs.declared.limits.TheConstants.{SHARDS}
 use Rattle.roc_program.specs.Names.{bindings_of, bindings}
 use Rattle.roc_program.specs.WellFormed.{IsTable, IsPiece, known_behind, ArePieces, IsProcedure, IsInit, IsProgram}
 use Rattle.roc_lang_resolve.specs.Resolve as resolve
-use Rattle.roc_lang_resolve.specs.Resolve.{texts, names_of, resolved}
+use Rattle.roc_lang_resolve.specs.Resolve.{texts, resolved}
 use Rattle.roc_lang_resolve.proofs.Numbered.{body_bindings, names_bound, pieces_bindings, pieces_numbers}
 use Rattle.roc_lang_resolve.proofs.Scoped.{front_none, back_none, each_none, number_of, Knows, knows_none, knows_these, knows_both, knows_first, key_over, has_column, body_over, first_none}
 use Rattle.roc_lang_resolve.proofs.Viewed.{view_reads}

@@ -1,9 +1,8 @@
 -- From what reading gives to logs and their first faults, and back.
-use Rattle.std.proofs.Common.{◌≡◌, ℕ, suc, ◌+◌, Bool, true, false, List, [], ◌∷◌, ◌++◌, length, Result, Ok, Err, refl, sym, ap, subst, ◌∙◌, ◌⊎◌, inl, inr, IfOk, IfErr, arith}
+use Rattle.std.proofs.Common.{◌≡◌, ℕ, ◌+◌, Bool, false, List, [], ◌∷◌, ◌++◌, length, Result, Ok, Err, refl, sym, ap, subst, ◌∙◌, ◌⊎◌, inl, inr, IfOk, IfErr, arith}
 use Rattle.roc_base.specs.declared.node.Node.{Node}
 use Rattle.roc_program.specs.Program.{Workload}
 use Rattle.roc_log.specs.declared.fault.What.{What}
-use Rattle.roc_log.specs.declared.fault.What.TheVariants.{Word}
 use Rattle.roc_log.specs.declared.fault.LogFault.{LogFault}
 use Rattle.roc_log.specs.declared.fault.LogFault.TheVariants.{At, NoMemory}
 use Rattle.roc_log.specs.declared.line.LogLine.{LogLine}

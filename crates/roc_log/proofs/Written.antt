@@ -1,6 +1,6 @@
 -- What is written of a log is read as it.
-use Rattle.std.proofs.Common.{◌≡◌, ℕ, ◌+◌, ◌^◌, ◌<◌, ◌≤◌, ℤ, Bool, true, false, ◌&&◌, ◌==◌, cond, List, [], ◌∷◌, ◌++◌, length, map, Option, Some, None, Result, Ok, Err, FitsSigned, w64, IsTrue, IsFalse, refl, sym, ap, subst, ◌∙◌, arith}
-use Rattle.std.specs.Prelude.{nat_lt, codes}
+use Rattle.std.proofs.Common.{◌≡◌, ℕ, ◌+◌, ◌^◌, ◌<◌, ◌≤◌, Bool, true, false, cond, List, [], ◌∷◌, ◌++◌, length, map, Some, None, Ok, Err, refl, ap, ◌∙◌, arith}
+use Rattle.std.specs.Prelude.{codes}
 use Rattle.std.specs.List.{AllByRecursion, list_any}
 use Rattle.std.specs.Option.{option_map}
 use Rattle.std.specs.Char.{is_ascii_alphabetic}
@@ -15,20 +15,19 @@ use Rattle.roc_base.specs.Node.{is_node, node_text}
 use Rattle.roc_base.specs.TxnId.{txn_text}
 use Rattle.roc_lang.specs.Tokens.{is_word_byte, IsWord}
 use Rattle.roc_program.specs.Program.{Workload}
-use Rattle.roc_program.specs.LookUps.{procedure_name, procedure_named, is_view_in}
+use Rattle.roc_program.specs.LookUps.{procedure_name, is_view_in}
 use Rattle.roc_sched.specs.Each.{◌>>=◌, each}
 use Rattle.roc_sched.specs.Lines.{parts_of}
-use Rattle.roc_sched.specs.Numbers.{integer_of, is_name, node_number}
+use Rattle.roc_sched.specs.Numbers.{integer_of}
 use Rattle.roc_sched.specs.Acts.{node_of, server_of, is_there}
 use Rattle.roc_sched.proofs.NameLemmas.{name_parts}
-use Rattle.roc_log.specs.declared.fault.What.{What}
 use Rattle.roc_log.specs.declared.fault.What.TheVariants as what
 use Rattle.roc_log.specs.declared.line.LogLine.{LogLine}
 use Rattle.roc_log.specs.declared.line.LogLine.TheVariants.{Submit, In, Tick, Out, Answer}
 use Rattle.roc_log.specs.declared.line.Log.{Log}
 use Rattle.roc_log.specs.LogLine.{spaced, first_word, other_words, log_text}
 use Rattle.roc_log.specs.Words.{exact_words, id_of, id_of_parts, is_datagram, of_workload, datagram_of}
-use Rattle.roc_log.specs.Reading.{named_node, or_there, or_unseen, first_line, arguments_of, call_of, call_with, submission_of, answer_of, one_datagram, or_word, line_of, further_line, ends}
+use Rattle.roc_log.specs.Reading.{named_node, or_there, or_unseen, first_line, arguments_of, call_of, call_with, or_word, line_of, ends}
 use Rattle.roc_log.specs.Logs.{AreLines, IsLog, MayStand, MayFollow, MayBeWritten}
 use Rattle.roc_log.proofs.Numerals.{AllAbove, above_less, decimal_above, number_read, integers_read, integers_above}
 use Rattle.roc_log.proofs.Spelled.{cut_at, uncut, words_cut, spaced_above, lines_told, hex_above, hex_read}

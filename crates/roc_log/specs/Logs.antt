@@ -1,5 +1,5 @@
 -- Logs, their first faults, and which logs may be written: docs/FORMATS.md, "Logs"
-use Rattle.std.specs.Prelude.{◌≡◌, ℕ, ◌+◌, ◌<◌, ◌≤◌, ◌^◌, Bool, true, false, IsTrue, IsFalse, List, [], ◌∷◌, ◌++◌, length, Some, Result, Ok, Err, FitsSigned}
+use Rattle.std.specs.Prelude.{◌≡◌, ℕ, ◌+◌, ◌<◌, ◌≤◌, ◌^◌, Bool, false, IsTrue, IsFalse, List, [], ◌∷◌, ◌++◌, length, Some, Result, Ok, Err, FitsSigned}
 use Rattle.std.specs.List.{AllByRecursion, list_any}
 use Rattle.std.specs.Int.{w64}
 use Rattle.hex.specs.Hex.{IsBytes}

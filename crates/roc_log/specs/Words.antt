@@ -1,5 +1,5 @@
 -- The lines of a log, their words, and words that are ids, bytes and datagrams: docs/FORMATS.md, "Logs"
-use Rattle.std.specs.Prelude.{ℕ, ◌<◌, ◌≡◌, true, Bool, false, not, nat_le, ◌&&◌, ◌==◌, if◌then◌else◌, List, [], ◌∷◌, Option, Some, None, Result, Ok, Err}
+use Rattle.std.specs.Prelude.{ℕ, Bool, false, not, nat_le, ◌&&◌, ◌==◌, if◌then◌else◌, List, [], ◌∷◌, Option, Some, None, Result, Ok, Err}
 use Rattle.std.specs.List.{list_all}
 use Rattle.std.specs.Str.{bytes_eq}
 use Rattle.hex.specs.Hex.{decode_of}

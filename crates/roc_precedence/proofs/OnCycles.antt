@@ -1,5 +1,5 @@
 -- Who is on a cycle: members of components with several, and who precedes itself
-use Rattle.std.proofs.Common.{◌≡◌, ◌≢◌, ℕ, suc, ◌<◌, ◌≤◌, Bool, true, false, cond, nat_lt, List, [], ◌∷◌, ◌++◌, length, filter, refl, sym, ap, subst, ◌∙◌, inl, inr, ◌⊎◌, arith}
+use Rattle.std.proofs.Common.{◌≡◌, ◌≢◌, ℕ, suc, Bool, true, false, cond, nat_lt, List, [], ◌∷◌, ◌++◌, length, filter, refl, sym, subst, ◌∙◌, inl, inr, ◌⊎◌, arith}
 use Rattle.std.proofs.lemmas.Bool.{false≢true}
 use Rattle.std.proofs.lemmas.Bool.Decides.{nat_tests}
 use Rattle.std.specs.List.{flat_map}
@@ -18,7 +18,6 @@ use Rattle.roc_depgraph.proofs.Chains.{joined_chain, weaker_chain}
 use Rattle.roc_depgraph.proofs.Listed.{has_listed, listed_has}
 use Rattle.roc_component.specs.Components.{among, Mates, AreComponentsOf}
 use Rattle.roc_component.proofs.ListsWithin.{once_from_rising}
-use Rattle.roc_component.proofs.Relations.{chain_starts}
 use Rattle.roc_precedence.specs.declared.pair.Pair.{Pair}
 use Rattle.roc_precedence.specs.Inner.Lists.{AreListsFor, members_of_several, precedes_itself}
 use Rattle.roc_precedence.specs.Pairs.{IsPaired}

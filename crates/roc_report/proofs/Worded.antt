@@ -5,7 +5,7 @@ use Rattle.roc_lang.specs.Syntax.{Name, Expression, Access, Statement, Piece, Pr
 use Rattle.roc_lang.specs.Tokens as tokens
 use Rattle.roc_lang.specs.Tokens.{Kind, Word, Integer, Mark, Token, IsWord, IsTokenStep, IsTokens}
 use Rattle.roc_lang.specs.Grammar as grammar
-use Rattle.roc_lang.specs.Grammar.{Limits, IsToken, IsName, IsInteger, IsSigned, Each, Separated, IsExpression, IsTerm, IsAtom, IsPair, IsAccess, IsStatement, IsPiece, IsArguments, IsOpening, IsProcedure, IsArity, IsTable, IsInit, IsText}
+use Rattle.roc_lang.specs.Grammar.{Limits, IsToken, IsName, IsSigned, Each, Separated, IsExpression, IsTerm, IsAtom, IsPair, IsAccess, IsStatement, IsPiece, IsArguments, IsOpening, IsProcedure, IsArity, IsTable, IsInit, IsText}
 use Rattle.roc_report.specs.Names.{IsWordName, HasWords}
 
 -- ---- the words of tokens

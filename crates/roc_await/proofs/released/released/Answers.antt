@@ -1,4 +1,4 @@
-use Rattle.std.proofs.Common.{◌≡◌, List, ap, refl, subst}
+use Rattle.std.proofs.Common.{List, subst}
 use Rattle.roc_sequence.proofs.Fronts.{front_whole}
 use Rattle.roc_await.specs.declared.group.Group.{Group}
 use Rattle.roc_await.specs.Inner.Groups.{all_lacks}

@@ -1,4 +1,4 @@
-use Rattle.std.proofs.Common.{◌≡◌, false, sym, ap, ◌∙◌, arith}
+use Rattle.std.proofs.Common.{arith}
 use Rattle.std.proofs.lemmas.Bool.Decides.{nat_tests}
 use Rattle.roc_check.proofs.PieceSets.{none_above}
 use Rattle.roc_check.proofs.piece_sets.has_bit.Goals as goal

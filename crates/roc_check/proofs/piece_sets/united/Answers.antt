@@ -1,4 +1,4 @@
-use Rattle.std.proofs.Common.{refl, arith}
+use Rattle.std.proofs.Common.{arith}
 use Rattle.roc_check.proofs.PieceSets.{united_more, united_all}
 use Rattle.roc_check.proofs.piece_sets.united.Goals as goal
 

@@ -1,4 +1,4 @@
-use Rattle.std.proofs.Common.{◌≡◌, ◌||◌, ◌+◌, ◌*◌, ◌^◌, ◌%◌, ℕ, set, get_or, sym, subst, arith}
+use Rattle.std.proofs.Common.{◌≡◌, ◌||◌, ◌*◌, ◌^◌, ◌%◌, ℕ, set, get_or, sym, subst, arith}
 use Rattle.std.specs.Int.RustNames.{bit_or}
 use Rattle.roc_check.specs.Inner.PieceSets.{holds, is_piece}
 use Rattle.roc_check.proofs.PieceSets.{with_bit}

@@ -1,7 +1,7 @@
 use Rattle.std.proofs.Common.{◌&&◌, ◌==◌, ◌+◌}
 use Rattle.std.specs.Prelude.{nat_lt}
 use Rattle.roc_check.specs.Inner.PieceSets.{is_piece}
-use Rattle.roc_check.proofs.Gathered.{adds_none, adds_more, adds_same, next_piece, no_piece_yet, all_pieces_of}
+use Rattle.roc_check.proofs.Gathered.{adds_more, next_piece}
 use Rattle.roc_check.proofs.users.add_procedure.Goals as goal
 
 pub loop-piece-preserved : goal.loop-piece-preserved

@@ -1,4 +1,4 @@
-use Rattle.std.proofs.Common.{◌≡◌, Some, None, sym, subst, ◌∙◌}
+use Rattle.std.proofs.Common.{subst}
 use Rattle.roc_judge.specs.Judged.{IsAnsweredUndecided, one_missing}
 use Rattle.roc_judge.specs.Inner.Found.{IsLeastOrNone}
 use Rattle.roc_judge.proofs.Rightly.{none_missing}

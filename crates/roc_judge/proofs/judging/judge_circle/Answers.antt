@@ -1,4 +1,4 @@
-use Rattle.std.proofs.Common.{◌≡◌, List, Some, IfSome, sym, ap, subst, ◌∙◌}
+use Rattle.std.proofs.Common.{◌≡◌, List, IfSome, sym, ap, subst, ◌∙◌}
 use Rattle.std.specs.List.{flat_map}
 use Rattle.roc_base.specs.declared.id.TxnId.{TxnId}
 use Rattle.roc_precedence.specs.declared.pair.Pair.{Pair}

@@ -1,7 +1,5 @@
-use Rattle.std.proofs.Common.{◌≡◌, List, Some, None, IfSome, sym, subst, ◌∙◌}
+use Rattle.std.proofs.Common.{IfSome, subst, ◌∙◌}
 use Rattle.std.proofs.lemmas.Result.{IfOk-weaker}
-use Rattle.roc_base.specs.declared.id.TxnId.{TxnId}
-use Rattle.roc_precedence.specs.declared.pair.Pair.{Pair}
 use Rattle.roc_precedence.specs.Orders.{IsLeastOrder}
 use Rattle.roc_precedence.specs.Pairs.{IsPaired}
 use Rattle.roc_judge.proofs.Rightly.{chains_for, order_for, circle_judged}

@@ -1,7 +1,6 @@
 use Rattle.std.proofs.Common.{◌∙◌, sym, ap}
 use Rattle.std.specs.List.{filter_map}
 use Rattle.roc_sequence.proofs.Fronts.{rest_at, no_rest}
-use Rattle.roc_base.specs.declared.id.TxnId.{TxnId}
 use Rattle.roc_whole.specs.Serial.{serial_answers}
 use Rattle.roc_audit.specs.Witness.{reply_in}
 use Rattle.roc_judge.specs.Inner.Sets.{call_in, found_at, first_of}

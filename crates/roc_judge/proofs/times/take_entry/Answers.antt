@@ -1,6 +1,5 @@
-use Rattle.std.proofs.Common.{◌≡◌, ◌++◌, ◌∷◌, sym, ap, subst, ◌∙◌}
+use Rattle.std.proofs.Common.{◌++◌, ◌∷◌, sym, ap, ◌∙◌}
 use Rattle.roc_audit.specs.declared.entry.Entry.{Entry}
-use Rattle.roc_audit.specs.declared.entry.Entry.TheVariants.{Submitted}
 use Rattle.roc_judge.specs.Inner.Times.{open_in, time_walk}
 use Rattle.roc_judge.proofs.Timed.{on_ok_three, submitted_walk}
 use Rattle.roc_judge.proofs.times.take_entry.Goals as goal

@@ -1,8 +1,8 @@
-use Rattle.std.proofs.Common.{◌≡◌, ◌∷◌, ◌+◌, ◌++◌, ◌∙◌, drop, filter, sym, ap, subst, refl}
+use Rattle.std.proofs.Common.{◌+◌, ◌++◌, ◌∙◌, drop, filter, sym, ap}
 use Rattle.roc_base.specs.TxnId.{is_txn}
 use Rattle.roc_sequence.specs.Places.{is_listed}
 use Rattle.roc_msg.specs.declared.outbox.Ran.{Ran}
-use Rattle.roc_judge.specs.Inner.Uses.{last_at, walk, nobody}
+use Rattle.roc_judge.specs.Inner.Uses.{last_at, walk}
 use Rattle.roc_judge.proofs.Tables.{rest_is, walk_taken, walk_passed}
 use Rattle.roc_judge.proofs.uses.pair_uses.Goals as goal
 use Rattle.roc_judge.proofs.uses.pair_uses.Goals.{then-is_among_rising+in_ok-take, else-is_among_rising}

@@ -1,4 +1,4 @@
-use Rattle.std.proofs.Common.{◌∙◌, refl}
+use Rattle.std.proofs.Common.{◌∙◌}
 use Rattle.roc_journal.specs.declared.record.Record.{Record}
 use Rattle.roc_kept.proofs.keeper.append.Goals as goal
 

@@ -1,4 +1,4 @@
-use Rattle.std.proofs.Common.{◌≡◌, refl}
+use Rattle.std.proofs.Common.{refl}
 use Rattle.roc_kept.proofs.Opened.{opened_leaves, then_left, opens_there}
 use Rattle.roc_kept.proofs.opening.open_file.Goals as goal
 

@@ -1,4 +1,4 @@
-use Rattle.std.proofs.Common.{◌≡◌, ◌∙◌, sym, subst}
+use Rattle.std.proofs.Common.{sym, subst}
 use Rattle.roc_journal.specs.declared.journal.Journal.{Journal}
 use Rattle.roc_journal.specs.declared.reader.Reader.{Reader}
 use Rattle.roc_journal.specs.Format.{IsJournal}

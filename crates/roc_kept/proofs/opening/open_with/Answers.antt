@@ -1,4 +1,4 @@
-use Rattle.std.proofs.Common.{◌≡◌, ◌∙◌, false, [], refl, ap}
+use Rattle.std.proofs.Common.{◌∙◌, false, [], refl, ap}
 use Rattle.roc_journal.specs.declared.journal.Journal.{Journal}
 use Rattle.roc_step.specs.State.{ServerState, Viewing}
 use Rattle.roc_kept.specs.declared.keeper.Keeper.{Keeper}

@@ -1,4 +1,4 @@
-use Rattle.std.proofs.Common.{◌≡◌, ℕ, refl, sym, subst, Ok, Err}
+use Rattle.std.proofs.Common.{ℕ, refl, sym, subst, Ok, Err}
 use Rattle.roc_journal.specs.Reading.{ReadsNext}
 use Rattle.roc_kept.specs.Opening.{IsRefusedAt, record_is_ignored, TakesAgain}
 use Rattle.roc_kept.proofs.Opened.{gives_more, no_record, one_taken, one_ignored}

@@ -1,4 +1,4 @@
-use Rattle.std.proofs.Common.{◌≡◌, ◌∙◌, [], Option, Ok, refl, sym, subst, IfSome}
+use Rattle.std.proofs.Common.{◌∙◌, [], Option, Ok, refl, subst, IfSome}
 use Rattle.roc_journal.specs.declared.reader.Reader.{Reader}
 use Rattle.roc_kept.specs.Opening.{IsFurther, TakesNext}
 use Rattle.roc_kept.proofs.Opened.{stays_here, stays_on, len_on, further_on, err_cause, err_taken, all_taken, more_taken, taken_there}

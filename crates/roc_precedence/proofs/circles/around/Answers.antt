@@ -1,7 +1,7 @@
-use Rattle.std.proofs.Common.{◌≡◌, List, ◌++◌, filter, ap, ◌∙◌}
+use Rattle.std.proofs.Common.{◌++◌, ap, ◌∙◌}
 use Rattle.std.proofs.lemmas.Result.{IfOk-weaker}
 use Rattle.std.specs.List.{flat_map}
-use Rattle.roc_precedence.specs.Inner.Lists.{members_of_several, precedes_itself}
+use Rattle.roc_precedence.specs.Inner.Lists.{members_of_several}
 use Rattle.roc_precedence.proofs.OnCycles.{around_for}
 use Rattle.roc_precedence.proofs.circles.around.Goals as goal
 

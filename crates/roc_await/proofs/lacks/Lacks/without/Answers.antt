@@ -1,4 +1,4 @@
-use Rattle.std.proofs.Common.{◌∙◌, List, ap, sym, subst}
+use Rattle.std.proofs.Common.{◌∙◌, List, ap, subst}
 use Rattle.std.specs.List.{flat_map}
 use Rattle.roc_sequence.specs.Places.{IsListed}
 use Rattle.roc_base.specs.TxnId.{is_txn}

@@ -1,4 +1,4 @@
-use Rattle.std.proofs.Common.{◌≡◌, true, sym, ◌∙◌}
+use Rattle.std.proofs.Common.{sym, ◌∙◌}
 use Rattle.roc_msg.specs.MsgEquality.{Decides-is_msg}
 use Rattle.roc_msg.proofs.msg.Msg.is.Goals as goal
 
