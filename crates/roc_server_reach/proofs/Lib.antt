@@ -1,5 +1,6 @@
 pub mod Numbers
 mod WordBits
+mod StaleBits
 mod RowWords
 mod Searches
 pub mod Chains

@@ -2,9 +2,9 @@
 use Rattle.std.proofs.Common.{◌≡◌, ◌≢◌, ℕ, zero, suc, ◌+◌, ◌-◌, ◌*◌, ◌/◌, ◌%◌, ◌^◌, ◌<◌, ◌≤◌, min, max, true, false, ◌||◌, List, [], ◌∷◌, ◌++◌, length, get_or, set, replicate}
 use Rattle.std.proofs.Common.{eqb, nat_eq, bit_and, bit_or, refl, sym, ap, ap₂, ◌∙◌, subst, inl, inr, arith, w64, eq-eqb, eqb-true, ne_eqb}
 use Rattle.std.proofs.lemmas.Bool.{cases_eq, cases_lt, eqb-false}
-use Rattle.std.proofs.lemmas.List.{length-set, get_or-set_same, get_or-set_other, get_or_past, get_or_read}
+use Rattle.std.proofs.lemmas.List.{length-set, get_or-set_same, get_or-set_other, get_or_past}
 use Rattle.std.proofs.lemmas.Nat.{le_or_l}
-use Rattle.std.proofs.lemmas.Nat.Bits.{bit_at_or, bit_at_and, bit_at_not, bit_at-zero, bit_at-lt, bit_at_set_same, bit_at_set_other, bit_at_clear_same, bit_at_clear_other, bit_at-trailing_zeros}
+use Rattle.std.proofs.lemmas.Nat.Bits.{bit_at_or, bit_at_and, bit_at_not, bit_at-zero, bit_at-lt, bit_at_set_same, bit_at_set_other, bit_at-trailing_zeros}
 use Rattle.std.specs.Int.{bit_at as digit_at, bit_not, trailing_zeros}
 use Rattle.std.specs.Int.Bits.{or_zero_r}
 use Rattle.roc_sequence.specs.Lists.{Has}
@@ -12,18 +12,15 @@ use Rattle.roc_sequence.specs.Places.{is_listed}
 use Rattle.roc_sequence.proofs.Holds.{same_tests}
 use Rattle.roc_sequence.proofs.Members.{has_left, has_right, has_more}
 use Rattle.roc_server_reach.specs.Bits.{row_bit}
-use Rattle.roc_server_reach.specs.Inner.Words.{HasAllBits, IsBitCleared, IsBitPut, IsNext, IsSetOf, room}
+use Rattle.roc_server_reach.specs.Inner.Words.{HasAllBits, IsBitPut, IsNext, IsSetOf, room}
 use Rattle.roc_server_reach.proofs.Numbers.{named_has, has_named}
 
 abbrev pub digit_in : (words : List ℕ) → ℕ → ℕ
 digit_in words m = digit_at (get_or words (m / 64) 0) (m % 64)
 
--- a word with the bit of a number, and without it
+-- a word with the bit of a number
 abbrev pub word_with : (word at : ℕ) → ℕ
 word_with word at = bit_or word (1 * 2 ^ (at % 64) % 2 ^ 64)
-
-abbrev pub word_without : (word at : ℕ) → ℕ
-word_without word at = bit_and word (bit_not w64 (1 * 2 ^ (at % 64) % 2 ^ 64))
 
 -- of a word of one set the bits that the other does not have
 abbrev pub left_at : (met done : List ℕ) → ℕ → ℕ
@@ -34,7 +31,7 @@ left_at met done k = bit_and (get_or met k 0) (bit_not w64 (get_or done k 0))
 zero_digit : (d : ℕ) → d < 2 → (d ≡ 1 → ⊥) → d ≡ 0
 zero_digit d low other = omega arith
 
-not_both : (d : ℕ) → d ≡ 0 → d ≡ 1 → ⊥
+pub not_both : (d : ℕ) → d ≡ 0 → d ≡ 1 → ⊥
 not_both d e f = omega arith
 
 pub digit_true : (words : List ℕ) (m : ℕ) → digit_in words m ≡ 1 → row_bit words m ≡ true
@@ -91,32 +88,6 @@ module _ (words : List ℕ) (at : ℕ) (within : at / 64 < length words) where
         own = digit_true (set words (at / 64) w) at (own_digit words at w within ∙ bit_at_set_same w64 word (at % 64) small);
         others = other_bits words at w within (λ i low apart. bit_at_set_other w64 word (at % 64) small i apart);
       }
-
-  pub bit_cleared : IsBitCleared at words (set words (at / 64) (word_without (get_or words (at / 64) 0) at))
-  bit_cleared =
-      let word : ℕ = get_or words (at / 64) 0 in
-      let w : ℕ = word_without word at in
-      record {
-        each = length-set words (at / 64) w;
-        own = digit_false (set words (at / 64) w) at (own_digit words at w within ∙ bit_at_clear_same w64 word (at % 64) small);
-        others = other_bits words at w within (λ i low apart. bit_at_clear_other w64 word (at % 64) small i low apart);
-      }
-
--- where this is the word that was read
-pub word_cleared : (words : List ℕ) (at word : ℕ) → at / 64 < length words → word ≡ get_or words (at / 64) word
-    → IsBitCleared at words (set words (at / 64) (word_without word at))
-word_cleared words at word within is =
-    subst (λ v. IsBitCleared at words (set words (at / 64) (word_without v at))) (sym (get_or_read words (at / 64) word within is 0))
-    (bit_cleared words at within)
-
--- beyond the words there is nothing to clear
-pub nothing_cleared : (words : List ℕ) (at : ℕ) → length words ≤ at / 64 → IsBitCleared at words words
-nothing_cleared words at beyond =
-    record {
-      each = refl;
-      own = digit_false words at (ap (λ v. digit_at v (at % 64)) (get_or_past words (at / 64) 0 beyond) ∙ bit_at-zero (at % 64));
-      others = λ m apart. refl;
-    }
 
 -- ---- a set that is filled
 
@@ -196,7 +167,7 @@ joined old added new front rest m =
     ∙ either_one (digit_in old m) (digit_at (get_or added (m / 64) 0) (m % 64)) (bit_at-lt (get_or old (m / 64) 0) (m % 64)) (bit_at-lt (get_or added (m / 64) 0) (m % 64)))
 
 -- of those of one set that another does not have
-left_digit : (a b i : ℕ) → b < 2 ^ 64 → i < 64 → digit_at (bit_and a (bit_not w64 b)) i ≡ min (digit_at a i) (1 - digit_at b i)
+pub left_digit : (a b i : ℕ) → b < 2 ^ 64 → i < 64 → digit_at (bit_and a (bit_not w64 b)) i ≡ min (digit_at a i) (1 - digit_at b i)
 left_digit a b i few low = bit_at_and a (bit_not w64 b) i ∙ ap (min (digit_at a i)) (bit_at_not w64 b i few low)
 
 one_left : (d e : ℕ) → d < 2 → min d (1 - e) ≡ 1 → (d ≡ 1) × (e ≡ 0)

@@ -12,19 +12,20 @@ use std::marker::Model;
 pub struct BitRows {
     alloc: Global,
     rows: Vec<Vec<u64>>,
-    // No row has more words.
-    width: usize,
+    // Numbers whose bits do not count in any row: their columns were cleared. No row has more words.
+    stale: Vec<u64>,
 }
 
 impl Model for BitRows {
+    ghost use Rattle.std.specs.Prelude.{length};
     ghost use Rattle.roc_server_reach.specs.Bits.{BitTable};
     ghost use Rattle.roc_server_reach.specs.Inner.Rows.{bits_in, AreRowsWithin};
 
     ghost Value = { BitTable };
 
-    ghost view = { λ b. bits_in b.rows.items };
+    ghost view = { λ b. bits_in b.rows.items b.stale.items };
 
-    ghost invariant = { λ b. AreRowsWithin b.rows.items b.width };
+    ghost invariant = { λ b. AreRowsWithin b.rows.items (length b.stale.items) };
 }
 
 impl BitRows {
@@ -35,20 +36,21 @@ impl BitRows {
         BitRows {
             alloc,
             rows: Vec::new(alloc),
-            width: 0,
+            stale: Vec::new(alloc),
         }
     }
 
     /// Gives a row the bits of these numbers and no others. It takes a bit for each number up to the greatest of them, and an empty row for
-    /// each number up to its own.
+    /// each number up to its own. Where it names a number whose column was cleared since all rows were last looked at, it looks at each row once, and
+    /// else at its own alone.
     pub fn put(&mut self, at: usize, names: &[usize]) -> Result<(), NoMemory>
         ensures ok { OnOk result (IsPut at names.now self.old self.new) }
         ensures err { OnErr result (AreSameBits self.old self.new) }
     {
-        put_row(self.alloc, &mut self.rows, &mut self.width, at, names)
+        put_row(self.alloc, &mut self.rows, &mut self.stale, at, names)
     }
 
-    /// Takes all bits out of a row and out of a column. Takes no memory, and looks at one word of each row.
+    /// Takes all bits out of a row and out of a column. Takes no memory, and looks at no other row.
     pub fn end(&mut self, at: usize)
         ensures { IsEnded at self.old self.new }
     {
@@ -63,17 +65,17 @@ impl BitRows {
         clear_row(&mut self.rows, at);
     }
 
-    /// Takes all bits out of a column. Takes no memory, and looks at one word of each row.
+    /// Takes all bits out of a column. Takes no memory, and looks at no row.
     pub fn clear_column(&mut self, at: usize)
         ensures { IsColumnCleared at self.old self.new }
     {
-        clear_column(&mut self.rows, at);
+        clear_column(&mut self.stale, at);
     }
 
     /// What these numbers lead to by chains of bits, they themselves among them. The order tells nothing.
     pub fn reached(&self, from: &[usize]) -> Result<Vec<usize>, NoMemory>
         ensures { IfOk result (λ ns. AreReached self.now from.now ns.items) }
     {
-        reached_by(self.alloc, &self.rows, self.width, from)
+        reached_by(self.alloc, &self.rows, &self.stale, from)
     }
 }

@@ -4,6 +4,9 @@
 //! hundreds of numbers each lead to hundreds of others are a few words each. [`BitRows::reached`] joins one row for each number that it finds:
 //! what it costs does not grow with how many bits are set. Contracts speak of single bits alone (`specs/Bits.antt`).
 //!
+//! A column is cleared by a mark that its number is stale, without a look at any row. Once a stale number is named again, all stale bits are taken
+//! out of all rows. So the rows are looked at seldom where numbers come back long after they were cleared.
+//!
 //! [`least`] gives the sixteen least of transactions by id (`specs/Least.antt`).
 #![tactic(auto)]
 

@@ -1,7 +1,7 @@
 //! Sets of numbers, as words of 64 bits.
-ghost use Rattle.std.specs.Prelude.{◌≡◌, ◌≤◌, ◌<◌, ◌/◌, ◌^◌, ◌||◌, ℕ, false, length, IfOk, IfNone, IfSome};
+ghost use Rattle.std.specs.Prelude.{◌≡◌, ◌≤◌, ◌<◌, ◌/◌, ◌^◌, ◌||◌, ℕ, List, false, length, max, slice_index_or, IfOk, IfNone, IfSome, OnOk};
 ghost use Rattle.roc_server_reach.specs.Bits.{row_bit};
-ghost use Rattle.roc_server_reach.specs.Inner.Words.{AreBelow, HasAllBits, IsBitCleared, IsBitPut, IsNext, IsSetOf, room};
+ghost use Rattle.roc_server_reach.specs.Inner.Words.{AreBelow, HasAllBits, IsBitPut, IsNext, IsSetOf, IsWithout, room, words_but};
 
 use roc_base::NoMemory;
 use std::alloc::Global;
@@ -58,22 +58,60 @@ pub(crate) fn put_bit(set: &mut [u64], at: usize)
     set[at / 64] |= 1u64 << (at % 64);
 }
 
-// Takes one number out of a set.
-pub(crate) fn clear_bit(set: &mut Vec<u64>, at: usize)
-    ensures { IsBitCleared at set.old.items set.new.items }
+// Adds words without a number until there are so many.
+pub(crate) fn widen(set: &mut Vec<u64>, width: usize) -> Result<(), NoMemory>
+    ensures same { (words : List ℕ) → words_but words set.new.items ≡ words_but words set.old.items }
+    ensures no_fewer { length set.old.items ≤ length set.new.items }
+    ensures at_most { length set.new.items ≤ max (length set.old.items) width }
+    ensures wide { OnOk result (width ≤ length set.new.items) }
 {
-    if at / 64 < set.len() {
-        set[at / 64] &= !(1u64 << (at % 64));
+    'widen: while set.len() < width {
+        set.push(0)?;
+    }
+    Ok(())
+}
+
+// Takes all numbers out of a set.
+pub(crate) fn clear_all(set: &mut Vec<u64>)
+    ensures each { length set.new.items ≡ length set.old.items }
+    ensures zeros { (k : ℕ) → slice_index_or set.new.items k 0 ≡ 0 }
+{
+    for place in 0..set.len() {
+        set[place] = 0;
     }
 }
 
-// Puts the members of another set in, which has no more words.
-pub(crate) fn join(set: &mut [u64], added: &[u64])
-    requires { length added.now ≤ length set.old }
-    ensures { (m : ℕ) → row_bit set.new m ≡ (row_bit set.old m || row_bit added.now m) }
+// Takes the stale members out, of which there are no fewer words.
+pub(crate) fn take_out(set: &mut Vec<u64>, stale: &[u64])
+    requires { length set.old.items ≤ length stale.now }
+    ensures { IsWithout stale.now set.old.items set.new.items }
+{
+    for place in 0..set.len() {
+        set[place] &= !stale[place];
+    }
+}
+
+// Whether a number is in both sets; the other has no fewer words.
+pub(crate) fn has_common(set: &[u64], other: &[u64]) -> bool
+    requires { length set.now ≤ length other.now }
+    ensures { result ≡ false → IsWithout other.now set.now set.now }
+{
+    for (place, word) in set.iter().enumerate() {
+        if *word & other[place] != 0 {
+            return true;
+        }
+    }
+    false
+}
+
+// Puts in the members of another set that are not stale. It has no more words than either.
+pub(crate) fn join_but(set: &mut [u64], added: &[u64], stale: &[u64])
+    requires room { length added.now ≤ length set.old }
+    requires covered { length added.now ≤ length stale.now }
+    ensures { (m : ℕ) → row_bit set.new m ≡ (row_bit set.old m || row_bit (words_but added.now stale.now) m) }
 {
     for (place, word) in added.iter().enumerate() {
-        set[place] |= *word;
+        set[place] |= *word & !stale[place];
     }
 }
 

@@ -15,6 +15,7 @@
 //! lists and what is decided as they were; nothing else here takes any but [`ids_at`].
 #![tactic(auto)]
 
+mod free_rows;
 mod marking;
 mod marks;
 mod rows;

@@ -1,6 +1,5 @@
 //! Rows by number.
 ghost use Rattle.std.specs.Prelude.{◌≡◌, ℕ, ◌<◌, ◌≤◌, ◌+◌, ◌==◌, ◌++◌, [], filter, length, map, not, None, Some, IfOk, IfSome, OnOk, OnErr, MatchOption, option_copied};
-ghost use Rattle.std.specs.Vec.{vec_capacity, vec_len};
 ghost use Rattle.std.specs.Map.{lookup};
 ghost use Rattle.std.specs.List.Sorted.{IsStrictlySortedBy};
 ghost use Rattle.roc_sequence.specs.Places.{is_listed};
@@ -11,9 +10,10 @@ ghost use Rattle.roc_depgraph.specs.Deps.{list_of};
 ghost use Rattle.roc_server_rows.specs.Changes.{lists_ended, untold, with_list};
 ghost use Rattle.roc_server_rows.specs.Marks.{IsLearnt, IsOut, IsTakenBack};
 ghost use Rattle.roc_step.specs.Links.{all_entries, least_naming};
-ghost use Rattle.roc_server_rows.specs.Inner.Rows.{GrowsTo, IsLinkFor, IsPlaced, told_entries, told_list};
+ghost use Rattle.roc_server_rows.specs.Inner.Rows.{GrowsTo, IsLinkFor, told_entries, told_list};
 ghost use Rattle.roc_server_rows.specs.Rows.{row_in, AreNamed, Grows, IsRowOf, IsRowTable, AreWhole, followed, known_of, lists_by};
 
+use crate::free_rows::{FreeRows, no_free, place};
 use roc_base::{Edge, Edges, NoMemory, TxnId};
 use roc_depgraph::is_among_rising;
 use roc_sequence::Sequence;
@@ -38,20 +38,21 @@ pub struct Row {
     pub edges: Edges,
     /// The link of each entry.
     pub names: Sequence<Link>,
-    /// The free row behind this one, where it is free.
+    /// The free row behind this one in its chain, where it is free.
     pub next: usize,
 }
 
-/// The rows, the number of each transaction that has one, the numbers of those that have a list and are not decided, the first free row, and the next
-/// birth or turn. Who changes marks keeps `undecided`: what is here changes it nowhere but in [`open_row`](crate::open_row) and
-/// [`keep_open`](crate::keep_open).
+/// The rows, the number of each transaction that has one, the numbers of those that have a list and are not decided, the free rows, and the next birth
+/// or turn. The free rows are two chains, so that the number of a row that ended comes back late: bits of numbers that ended are cleared out of all
+/// rows of bits once one of these numbers is named again, and so of many numbers at once. Who changes marks keeps `undecided`: what is here changes it
+/// nowhere but in [`open_row`](crate::open_row) and [`keep_open`](crate::keep_open).
 #[derive(Drop)]
 pub struct Parts {
     pub alloc: Global,
     pub numbers: HashMap<TxnId, usize>,
     pub rows: Vec<Row>,
     pub undecided: Vec<usize>,
-    free: usize,
+    free: FreeRows,
     pub stamp: u64,
 }
 
@@ -66,7 +67,7 @@ pub fn none(alloc: Global) -> Parts
         numbers: HashMap::new(alloc),
         rows: Vec::new(alloc),
         undecided: Vec::new(alloc),
-        free: 0,
+        free: no_free(),
         stamp: 1,
     }
 }
@@ -97,24 +98,6 @@ pub fn ids_at(alloc: Global, rows: &[Row], numbers: &[usize]) -> Result<Vec<TxnI
         ids.push(id_at(rows, *at))?;
     }
     Ok(ids)
-}
-
-// Puts a row where one is free, or behind the others, where there is room.
-fn place(rows: &mut Vec<Row>, free: &mut usize, row: Row) -> usize
-    requires { vec_len rows.old < vec_capacity rows.old }
-    ensures { IsPlaced rows.old.items rows.new.items row result }
-{
-    let at = *free;
-    if at < rows.len() {
-        if rows[at].birth == 0 {
-            *free = rows[at].next;
-            rows[at] = row;
-            return at;
-        }
-    }
-    let at = rows.len();
-    rows.push(row).unwrap();
-    at
 }
 
 // The row of a transaction, with the birth of what it names; one is made where it has none.
@@ -202,12 +185,13 @@ fn names_of(parts: &mut Parts, edges: &[Edge], done: &[TxnId]) -> Result<Sequenc
     ensures names { IfOk result (AreNamed parts.new.rows.items parts.new.stamp edges.now) }
     ensures followed { IfOk result (λ names. followed parts.new.rows.items edges.now names ≡ filter (λ d. not (is_listed is_txn done.now d.from)) edges.now) }
 {
-    let mut names = Sequence::new(parts.alloc);
+    let mut names = Vec::new(parts.alloc);
+    names.reserve(edges.len())?;
     for edge in edges {
         let link = link_of(parts, edge.from(), done)?;
         names.push(link)?;
     }
-    Ok(names)
+    Ok(Sequence::from_vec(names))
 }
 
 // The link of an entry that names a transaction.
@@ -274,9 +258,10 @@ pub(crate) fn end(parts: &mut Parts, id: TxnId)
 {
     if let Some(at) = parts.numbers.remove(&id) {
         let mut row = unknown_row(parts.alloc, id, 0);
-        row.next = parts.free;
+        row.next = parts.free.ended;
         parts.rows[at] = row;
-        parts.free = at;
+        parts.free.ended = at;
+        parts.free.many = parts.free.many.saturating_add(1);
     }
 }
 

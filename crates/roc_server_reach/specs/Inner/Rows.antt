@@ -2,10 +2,11 @@
 use Rattle.std.specs.Prelude.{◌≡◌, ◌≤◌, ◌^◌, ℕ, List, [], length, map, slice_index_or, Vec}
 use Rattle.std.specs.declared.alloc.Global.{Global}
 use Rattle.roc_server_reach.specs.Bits.{BitTable}
+use Rattle.roc_server_reach.specs.Inner.Words.{words_but}
 
--- the bits of rows
-abbrev pub bits_in : List (Vec ℕ Global) → BitTable
-bits_in rows = record { rows = map (λ row. row.items) rows }
+-- the bits of rows but for the stale ones, which are the same numbers in each row
+abbrev pub bits_in : List (Vec ℕ Global) → (stale : List ℕ) → BitTable
+bits_in rows stale = record { rows = map (λ row. words_but row.items stale) rows }
 
 -- the words of a row; one that is not there has none
 abbrev pub words_at : List (Vec ℕ Global) → ℕ → List ℕ

@@ -9,9 +9,19 @@ pub set_of-requires : goal.set_of-requires
 set_of-requires c = λ k h. (let below = c.words_for.ensures.below k h in omega arith)
 
 pub search-requires-clause-within : goal.search-requires-clause-within
-search-requires-clause-within c =
+search-requires-clause-within c = c.requires
+
+pub search-requires-clause-wide : goal.search-requires-clause-wide
+search-requires-clause-wide c =
     let long : length c.deref_mut.result.now ≡ c.max-width.result = ap length c.deref_mut.ensures.value ∙ c.in_ok-met.ensures.width in
-    record { each = λ n. (let low = c.requires.each n in omega arith); few = (let a = c.requires.few in let b = c.words_for.ensures.few in omega arith) }
+    omega arith
+
+pub search-requires-clause-few : goal.search-requires-clause-few
+search-requires-clause-few c =
+    let long : length c.deref_mut.result.now ≡ c.max-width.result = ap length c.deref_mut.ensures.value ∙ c.in_ok-met.ensures.width in
+    let a = c.requires.few in
+    let b = c.words_for.ensures.few in
+    omega arith
 
 pub search-requires-clause-each : goal.search-requires-clause-each
 search-requires-clause-each c = omega (arith, ap length c.deref_mut.ensures.value, ap length c.deref_mut-2.ensures.value, c.in_ok-met.ensures.width, c.in_ok-done.ensures.width)
@@ -21,6 +31,6 @@ search-requires-clause-none c = λ m. ap (λ (ws : List ℕ). row_bit ws m) c.de
 
 pub returns : goal.returns
 returns c =
-    IfOk-weaker c.search.result (λ (ns : Vec ℕ Global). (names : List ℕ) → IsSetOf names c.deref_mut.result.now → AreReached (bits_in c.args.rows.now) names ns.items)
-    (λ (ns : Vec ℕ Global). AreReached (bits_in c.args.rows.now) c.args.from.now ns.items)
+    IfOk-weaker c.search.result (λ (ns : Vec ℕ Global). (names : List ℕ) → IsSetOf names c.deref_mut.result.now → AreReached (bits_in c.args.rows.now c.args.stale.now) names ns.items)
+    (λ (ns : Vec ℕ Global). AreReached (bits_in c.args.rows.now c.args.stale.now) c.args.from.now ns.items)
     (λ ns reached. reached c.args.from.now (λ m. ap (λ (ws : List ℕ). row_bit ws m) c.deref_mut.ensures.value ∙ c.in_ok-met.ensures.bits m)) c.search.ensures
