@@ -26,7 +26,7 @@ nothing_sound k once lists kept index none = record {
 pub released_sound : (k new : ServerParts) → IsSound k → CanRelease k → (newly over : List TxnId) → newly ≡ newly_of k.lists.tried → over ≡ over_of k.lists.tried → new.lists.kept ≡ lists_behind k.lists → AreSound new.lists
     → new.groups.kept ≡ groups_behind over k.groups → AreOnce new.groups
     → ((before after : List TxnId) → IsIndexOf k.groups.index before k.groups.kept → AreDecidedBehind before newly over after
-    → ((e : StartedGroup) → Has e k.groups.starting → (is_listed is_txn before e.id ≡ false) × (is_listed is_txn newly e.id ≡ false)) → IsIndexOf new.groups.index after new.groups.kept)
+    → ((e : StartedGroup) → Has e k.groups.starting → is_listed is_txn before e.id ≡ false) → IsIndexOf new.groups.index after new.groups.kept)
     → IsSound new
 released_sound k new sound can newly over newly_is over_is kept lists groups once index =
     let behind = decided_then k sound new.lists kept lists in
@@ -36,8 +36,7 @@ released_sound k new sound can newly over newly_is over_is kept lists groups onc
     record {
       groups = once;
       lists = lists;
-      index = index k.lists.decided new.lists.decided sound.index behind
-          (λ e has. ((can.starting e has).0, subst (λ ids. is_listed is_txn ids e.id ≡ false) (sym newly_is) (can.starting e has).1));
+      index = index k.lists.decided new.lists.decided sound.index behind (λ e has. (can.starting e has).0);
       left = subst (λ (l : KeptLists). IsNoneLeft new.groups.kept l.lists) (sym kept)
           (subst (λ es. IsNoneLeft es (lists_behind k.lists).lists) (sym (groups ∙ ap (λ ids. groups_behind ids k.groups) over_is)) can.left);
     }

@@ -22,7 +22,7 @@ use Rattle.roc_step.specs.declared.started.StartedGroup.{StartedGroup}
 use Rattle.roc_step.specs.Start.{uses_cell}
 use Rattle.roc_server_groups.specs.Groups.{AreSameGroups}
 use Rattle.roc_server_groups.specs.Indexed.{group_ref_of, group_refs_of, undecided_refs, IsIndexOf, IsGroupRefOf, AreGroupRefsOf, HasRoomAtCells, IsAddedAt, AreOut}
-use Rattle.roc_server_groups.specs.Inner.Looks.{IsOutOf, IsOut}
+use Rattle.roc_server_groups.specs.Inner.Looks.{IsOutOf, IsOutOfAll}
 use Rattle.roc_step.specs.State.{is_group, find_group}
 use Rattle.roc_server_groups.proofs.Stands.{indexed_is, group_refs_more, group_refs_same}
 
@@ -163,7 +163,7 @@ out_more id first next passes old mid new is so_far step c =
     step c ∙ ap (λ ss. if next c then without id ss else ss) (so_far c) ∙ out_once id (group_refs_at c old) (first c) (next c) ∙ ap (λ t. if t then without id (group_refs_at c old) else group_refs_at c old) (sym (is c))
 
 -- out of the cells of all its groups, it is out of all cells
-pub out_of_all : (id : TxnId) (es : List StartedGroup) (old new : Index) → AreGroupRefsOf es old → IsOutOf id (λ c. list_any (λ e. is_txn e.id id && uses_cell c e) es) old new → IsOut id old new
+pub out_of_all : (id : TxnId) (es : List StartedGroup) (old new : Index) → AreGroupRefsOf es old → IsOutOf id (λ c. list_any (λ e. is_txn e.id id && uses_cell c e) es) old new → IsOutOfAll id old new
 out_of_all id es old new group_refs out c = out c ∙ go (list_any (λ e. is_txn e.id id && uses_cell c e) es) refl
   where
     go : (b : Bool) → list_any (λ e. is_txn e.id id && uses_cell c e) es ≡ b → (if b then without id (group_refs_at c old) else group_refs_at c old) ≡ without id (group_refs_at c old)
@@ -186,7 +186,7 @@ listed_also : (ids : List TxnId) (k : ℕ) (d t : TxnId) → k < length ids → 
 listed_also ids k d t within =
     is_listed-any (take (k + 1) ids) t ∙ list_any_more (λ x. is_txn x t) ids k d within ∙ ap (λ b. b || is_txn (get_or ids k d) t) (sym (is_listed-any (take k ids) t))
 
-pub are_out_more : (ids : List TxnId) (k : ℕ) (d : TxnId) (old mid new : Index) → k < length ids → AreOut (take k ids) old mid → IsOut (get_or ids k d) mid new → AreOut (take (k + 1) ids) old new
+pub are_out_more : (ids : List TxnId) (k : ℕ) (d : TxnId) (old mid new : Index) → k < length ids → AreOut (take k ids) old mid → IsOutOfAll (get_or ids k d) mid new → AreOut (take (k + 1) ids) old new
 are_out_more ids k d old mid new within so_far step c =
     step c ∙ ap (without (get_or ids k d)) (so_far c)
     ∙ filter_both (λ (s : GroupRef). not (is_listed is_txn (take k ids) s.id)) (λ s. not (is_txn s.id (get_or ids k d))) (λ s. not (is_listed is_txn (take (k + 1) ids) s.id))

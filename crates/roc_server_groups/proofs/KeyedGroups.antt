@@ -16,8 +16,8 @@ use Rattle.roc_base.specs.TxnId.{is_txn}
 use Rattle.roc_server_groups.specs.declared.group_key.GroupKey.{GroupKey}
 use Rattle.roc_step.specs.declared.started.StartedGroup.{StartedGroup}
 use Rattle.roc_step.specs.State.{is_group}
-use Rattle.roc_server_groups.specs.Inner.Keyed.{AreKeyed, AreBelow, IsOnceHere, key_of, lesser}
-use Rattle.roc_server_groups.proofs.Placed.{position-map, position-same, position-none, position-either}
+use Rattle.roc_server_groups.specs.Inner.Keyed.{AreKeyed, HaveNumbersBelow, IsOnceHere, group_key_of}
+use Rattle.roc_server_groups.proofs.Placed.{position-map, position-same}
 
 abbrev pub is_key : GroupKey → GroupKey → Bool
 is_key a b = is_txn a.id b.id && a.number == b.number
@@ -31,72 +31,72 @@ module _ (id : TxnId) (number : ℕ) where
   abbrev k : GroupKey
   k = record { id = id; number = number }
 
-  pub place_is : (es : List (GroupKey × StartedGroup)) → keys_of es ≡ map key_of (values_of es) → position (is_key k) (keys_of es) ≡ position (is_group id number) (values_of es)
+  pub place_is : (es : List (GroupKey × StartedGroup)) → keys_of es ≡ map group_key_of (values_of es) → position (is_key k) (keys_of es) ≡ position (is_group id number) (values_of es)
   place_is es same =
-      ap (position (is_key k)) same ∙ position-map key_of (is_key k) (values_of es)
-      ∙ position-same (λ e. is_key k (key_of e)) (is_group id number) (values_of es) (λ e h. key_is id number e)
+      ap (position (is_key k)) same ∙ position-map group_key_of (is_key k) (values_of es)
+      ∙ position-same (λ e. is_key k (group_key_of e)) (is_group id number) (values_of es) (λ e h. key_is id number e)
 
-  pub lookup_is : (es : List (GroupKey × StartedGroup)) → keys_of es ≡ map key_of (values_of es) → lookup (is_key k) es ≡ find (is_group id number) (values_of es)
+  pub lookup_is : (es : List (GroupKey × StartedGroup)) → keys_of es ≡ map group_key_of (values_of es) → lookup (is_key k) es ≡ find (is_group id number) (values_of es)
   lookup_is [] same = refl
   lookup_is (e ∷ es) same =
-      let first : e.0 ≡ key_of e.1 = cc in
-      let rest : keys_of es ≡ map key_of (values_of es) = cc in
+      let first : e.0 ≡ group_key_of e.1 = cc in
+      let rest : keys_of es ≡ map group_key_of (values_of es) = cc in
       ap (λ b. cond b (Some e.1) (lookup (is_key k) es)) (ap (is_key k) first ∙ key_is id number e.1) ∙ ap (cond (is_group id number e.1) (Some e.1)) (lookup_is es rest)
 
-one_of_key : (es : List StartedGroup) → IsDistinct is_key (map key_of es) → (a b : StartedGroup) → Has a es → Has b es → is_key (key_of a) (key_of b) ≡ true → is_key (key_of b) (key_of a) ≡ true → a ≡ b
+one_of_key : (es : List StartedGroup) → IsDistinct is_key (map group_key_of es) → (a b : StartedGroup) → Has a es → Has b es → is_key (group_key_of a) (group_key_of b) ≡ true → is_key (group_key_of b) (group_key_of a) ≡ true → a ≡ b
 unfolding IsDistinct
 one_of_key [] d a b h i e f = absurd h
 one_of_key (x ∷ xs) d a b (inl p) (inl q) e f = p ∙ sym q
 one_of_key (x ∷ xs) d a b (inl p) (inr i) e f =
-    absurd (false≢true (sym (all_has (λ y. is_key (key_of x) y ≡ false) (key_of b) (map key_of xs) d.0 (has_map key_of b xs i)) ∙ subst (λ (v : StartedGroup). is_key (key_of v) (key_of b) ≡ true) p e))
+    absurd (false≢true (sym (all_has (λ y. is_key (group_key_of x) y ≡ false) (group_key_of b) (map group_key_of xs) d.0 (has_map group_key_of b xs i)) ∙ subst (λ (v : StartedGroup). is_key (group_key_of v) (group_key_of b) ≡ true) p e))
 one_of_key (x ∷ xs) d a b (inr h) (inl q) e f =
-    absurd (false≢true (sym (all_has (λ y. is_key (key_of x) y ≡ false) (key_of a) (map key_of xs) d.0 (has_map key_of a xs h)) ∙ subst (λ (v : StartedGroup). is_key (key_of v) (key_of a) ≡ true) q f))
+    absurd (false≢true (sym (all_has (λ y. is_key (group_key_of x) y ≡ false) (group_key_of a) (map group_key_of xs) d.0 (has_map group_key_of a xs h)) ∙ subst (λ (v : StartedGroup). is_key (group_key_of v) (group_key_of a) ≡ true) q f))
 one_of_key (x ∷ xs) d a b (inr h) (inr i) e f = one_of_key xs d.1 a b h i e f
 
-same_key : (id : TxnId) (number : ℕ) (a b : StartedGroup) → is_group id number a ≡ true → is_group id number b ≡ true → is_key (key_of a) (key_of b) ≡ true
+same_key : (id : TxnId) (number : ℕ) (a b : StartedGroup) → is_group id number a ≡ true → is_group id number b ≡ true → is_key (group_key_of a) (group_key_of b) ≡ true
 same_key id number a b h k = grind (arith, nat_tests)
 
-pub once_here : (es : List (GroupKey × StartedGroup)) → keys_of es ≡ map key_of (values_of es) → IsDistinct is_key (keys_of es) → (id : TxnId) (number : ℕ) → IsOnceHere id number (values_of es)
+pub once_here : (es : List (GroupKey × StartedGroup)) → keys_of es ≡ map group_key_of (values_of es) → IsDistinct is_key (keys_of es) → (id : TxnId) (number : ℕ) → IsOnceHere id number (values_of es)
 once_here es same d id number a b h i e f =
     one_of_key (values_of es) (subst (IsDistinct is_key) same d) a b h i (same_key id number a b e f) (same_key id number b a f e)
 
-pub are_below : (es : List (GroupKey × StartedGroup)) (numbers : ℕ) → AreKeyed es numbers → AreBelow numbers (values_of es)
-are_below es numbers keyed e h = keyed.below (key_of e) (subst (Has (key_of e)) (sym keyed.keys) (has_map key_of e (values_of es) h))
+pub are_below : (es : List (GroupKey × StartedGroup)) (numbers : ℕ) → AreKeyed es numbers → HaveNumbersBelow numbers (values_of es)
+are_below es numbers keyed e h = keyed.below (group_key_of e) (subst (Has (group_key_of e)) (sym keyed.keys) (has_map group_key_of e (values_of es) h))
 
 -- one more, under its key
-pub keyed_more : (es more : List (GroupKey × StartedGroup)) (numbers above : ℕ) (e : StartedGroup) → AreKeyed es numbers → more ≡ es ++ (key_of e, e) ∷ [] → numbers ≤ above → e.group < above → AreKeyed more above
+pub keyed_more : (es more : List (GroupKey × StartedGroup)) (numbers above : ℕ) (e : StartedGroup) → AreKeyed es numbers → more ≡ es ++ (group_key_of e, e) ∷ [] → numbers ≤ above → e.group < above → AreKeyed more above
 keyed_more es more numbers above e keyed is wide own =
     subst (λ l. AreKeyed l above) (sym is) (record {
-      keys = keys_more ∙ (λ i. keyed.keys i ++ key_of e ∷ []) ∙ sym (ap (map key_of) (values_more) ∙ map-append key_of (values_of es) (e ∷ []));
-      below = λ k h. elim (has_more k (key_of e) (keys_of es) (subst (Has k) keys_more h)) [
+      keys = keys_more ∙ (λ i. keyed.keys i ++ group_key_of e ∷ []) ∙ sym (ap (map group_key_of) (values_more) ∙ map-append group_key_of (values_of es) (e ∷ []));
+      below = λ k h. elim (has_more k (group_key_of e) (keys_of es) (subst (Has k) keys_more h)) [
         | inl i ↦ (let l = keyed.below k i in omega arith)
         | inr i ↦ subst (λ (v : GroupKey). v.number < above) (sym i) own
       ];
     })
   where
-    keys_more : keys_of (es ++ (key_of e, e) ∷ []) ≡ keys_of es ++ key_of e ∷ []
-    keys_more = map-append (λ (p : GroupKey × StartedGroup). p.0) es ((key_of e, e) ∷ [])
+    keys_more : keys_of (es ++ (group_key_of e, e) ∷ []) ≡ keys_of es ++ group_key_of e ∷ []
+    keys_more = map-append (λ (p : GroupKey × StartedGroup). p.0) es ((group_key_of e, e) ∷ [])
 
-    values_more : values_of (es ++ (key_of e, e) ∷ []) ≡ values_of es ++ e ∷ []
-    values_more = map-append (λ (p : GroupKey × StartedGroup). p.1) es ((key_of e, e) ∷ [])
+    values_more : values_of (es ++ (group_key_of e, e) ∷ []) ≡ values_of es ++ e ∷ []
+    values_more = map-append (λ (p : GroupKey × StartedGroup). p.1) es ((group_key_of e, e) ∷ [])
 
 pub values_more : (es more : List (GroupKey × StartedGroup)) (k : GroupKey) (e : StartedGroup) → more ≡ es ++ (k, e) ∷ [] → values_of more ≡ values_of es ++ e ∷ []
 values_more es more k e is = ap values_of is ∙ map-append (λ (p : GroupKey × StartedGroup). p.1) es ((k, e) ∷ [])
 
 -- other values under the same keys
-pub keyed_again : (es others : List (GroupKey × StartedGroup)) (numbers : ℕ) → AreKeyed es numbers → keys_of others ≡ keys_of es → map key_of (values_of others) ≡ map key_of (values_of es) → AreKeyed others numbers
+pub keyed_again : (es others : List (GroupKey × StartedGroup)) (numbers : ℕ) → AreKeyed es numbers → keys_of others ≡ keys_of es → map group_key_of (values_of others) ≡ map group_key_of (values_of es) → AreKeyed others numbers
 keyed_again es others numbers keyed same alike =
     record { keys = same ∙ keyed.keys ∙ sym alike; below = λ k h. keyed.below k (subst (Has k) same h) }
 
 -- ---- those of some transactions
 
 -- a test of the transaction leaves keys and groups alike
-pub values_some : (stays : TxnId → Bool) (es : List (GroupKey × StartedGroup)) → keys_of es ≡ map key_of (values_of es)
+pub values_some : (stays : TxnId → Bool) (es : List (GroupKey × StartedGroup)) → keys_of es ≡ map group_key_of (values_of es)
     → values_of (filter (λ e. stays e.0.id) es) ≡ filter (λ e. stays e.id) (values_of es)
 values_some stays [] same = refl
 values_some stays (e ∷ es) same =
-    let first : e.0 ≡ key_of e.1 = cc in
-    let rest : keys_of es ≡ map key_of (values_of es) = cc in
+    let first : e.0 ≡ group_key_of e.1 = cc in
+    let rest : keys_of es ≡ map group_key_of (values_of es) = cc in
     go (stays e.0.id) (values_some stays es rest) ∙ ap (λ (k : GroupKey). cond (stays k.id) (e.1 ∷ filter (λ x. stays x.id) (values_of es)) (filter (λ x. stays x.id) (values_of es))) first
   where
     go : (b : Bool) → values_of (filter (λ e. stays e.0.id) es) ≡ filter (λ x. stays x.id) (values_of es)
@@ -104,18 +104,18 @@ values_some stays (e ∷ es) same =
     go true ih = ap (λ es. e.1 ∷ es) ih
     go false ih = ih
 
-keys_some : (stays : TxnId → Bool) (es : List (GroupKey × StartedGroup)) → keys_of es ≡ map key_of (values_of es)
-    → keys_of (filter (λ e. stays e.0.id) es) ≡ map key_of (values_of (filter (λ e. stays e.0.id) es))
+keys_some : (stays : TxnId → Bool) (es : List (GroupKey × StartedGroup)) → keys_of es ≡ map group_key_of (values_of es)
+    → keys_of (filter (λ e. stays e.0.id) es) ≡ map group_key_of (values_of (filter (λ e. stays e.0.id) es))
 keys_some stays [] same = refl
 keys_some stays (e ∷ es) same =
-    let first : e.0 ≡ key_of e.1 = cc in
-    let rest : keys_of es ≡ map key_of (values_of es) = cc in
+    let first : e.0 ≡ group_key_of e.1 = cc in
+    let rest : keys_of es ≡ map group_key_of (values_of es) = cc in
     go first (stays e.0.id) (keys_some stays es rest)
   where
     some : List (GroupKey × StartedGroup)
     some = filter (λ e. stays e.0.id) es
 
-    go : e.0 ≡ key_of e.1 → (b : Bool) → keys_of some ≡ map key_of (values_of some) → keys_of (cond b (e ∷ some) some) ≡ map key_of (values_of (cond b (e ∷ some) some))
+    go : e.0 ≡ group_key_of e.1 → (b : Bool) → keys_of some ≡ map group_key_of (values_of some) → keys_of (cond b (e ∷ some) some) ≡ map group_key_of (values_of (cond b (e ∷ some) some))
     go first true ih = λ i. first i ∷ ih i
     go first false ih = ih
 
@@ -136,10 +136,10 @@ values-set [] at w = refl
 values-set (e ∷ es) zero w = refl
 values-set (e ∷ es) (suc at) w = ap (λ l. e.1 ∷ l) (values-set es at w)
 
-pub keys-set : (es : List StartedGroup) (at : ℕ) (e w : StartedGroup) → slice_get es at ≡ Some e → key_of w ≡ key_of e → map key_of (slice_set es at w) ≡ map key_of es
+pub keys-set : (es : List StartedGroup) (at : ℕ) (e w : StartedGroup) → slice_get es at ≡ Some e → group_key_of w ≡ group_key_of e → map group_key_of (slice_set es at w) ≡ map group_key_of es
 keys-set [] at e w got same = refl
-keys-set (x ∷ xs) zero e w got same = (let is : x ≡ e = cc in λ i. (same ∙ ap key_of (sym is)) i ∷ map key_of xs)
-keys-set (x ∷ xs) (suc at) e w got same = ap (λ l. key_of x ∷ l) (keys-set xs at e w got same)
+keys-set (x ∷ xs) zero e w got same = (let is : x ≡ e = cc in λ i. (same ∙ ap group_key_of (sym is)) i ∷ map group_key_of xs)
+keys-set (x ∷ xs) (suc at) e w got same = ap (λ l. group_key_of x ∷ l) (keys-set xs at e w got same)
 
 -- ---- those of one transaction, number by number
 
@@ -155,15 +155,6 @@ module _ (id : TxnId) where
 
   all_up : (n : ℕ) (e : StartedGroup) → e.group < n → is_up_to n e ≡ is_txn e.id id
   all_up n e l = grind (arith, nat_tests)
-
-  pub first_none : (es : List StartedGroup) → None ≡ position (is_up_to 0) es
-  first_none es = sym (position-none (is_up_to 0) es (λ e h. none_up e))
-
-  pub first_more : (n : ℕ) (es : List StartedGroup) → position (is_up_to (n + 1)) es ≡ lesser (position (is_up_to n) es) (position (is_group id n) es)
-  first_more n es = sym (position-either (is_up_to n) (is_group id n) (is_up_to (n + 1)) (one_up n) es)
-
-  pub first_all : (n : ℕ) (es : List StartedGroup) → AreBelow n es → position (is_up_to n) es ≡ position (λ e. is_txn e.id id) es
-  first_all n es below = position-same (is_up_to n) (λ e. is_txn e.id id) es (λ e h. all_up n e (below e h))
 
   module _ (q : StartedGroup → Bool) where
     abbrev pub passes_up_to : ℕ → StartedGroup → Bool
@@ -209,7 +200,7 @@ module _ (id : TxnId) where
           | inr t ↦ one (find (is_group id n) es) refl t
         ]
 
-    pub any_all : (n : ℕ) (es : List StartedGroup) → AreBelow n es → list_any (passes_up_to n) es ≡ list_any (λ e. is_txn e.id id && q e) es
+    pub any_all : (n : ℕ) (es : List StartedGroup) → HaveNumbersBelow n es → list_any (passes_up_to n) es ≡ list_any (λ e. is_txn e.id id && q e) es
     any_all n [] below = refl
     any_all n (e ∷ es) below = (λ i. (all_up n e (below e (inl refl)) i && q e) || any_all n es (λ x h. below x (inr h)) i)
 

@@ -1,5 +1,7 @@
 mod Accesses
 pub mod CellByCell
+pub mod EachCell
+mod FirstGroups
 mod GroupRuns
 pub mod IndexSteps
 mod KeyedGroups

@@ -25,7 +25,7 @@ use Rattle.roc_server_groups.specs.declared.runs.Earlier.{Earlier}
 use Rattle.roc_server_groups.specs.Groups.{is_same_group, AreSameGroups}
 use Rattle.roc_server_groups.specs.GroupsNow.{others, AreDecidedBehind, AreOnce, IsUntried}
 use Rattle.roc_server_groups.specs.Indexed.{group_ref_of, group_refs_of, undecided_refs, AreGroupRefsOf, AreOut, IsAddedAt, IsGroupRefOf, IsIndexOf}
-use Rattle.roc_server_groups.specs.Inner.Tried.{AreTried, CanEnter, HasRoomFor}
+use Rattle.roc_server_groups.specs.Inner.Tried.{AreTried, CanEnter, HasRoomToEnter}
 use Rattle.roc_server_groups.specs.Runs.{restored, with_later_at}
 use Rattle.roc_server_groups.proofs.IndexSteps.{filter_all, index_decided}
 use Rattle.roc_server_groups.proofs.Restored.{restored-none}
@@ -197,7 +197,7 @@ once_ran ws es once = once_same (restored ws es) es (restored_same ws es) once
 pub tried_none : (kept same starting : List StartedGroup) (spare : ℕ) (index : Index) → same ≡ kept → starting ≡ [] → NoneTwice is_same_group kept → AreTried same spare starting index
 tried_none kept same starting spare index is none once = record { once = subst (NoneTwice is_same_group) (sym is) once; enters = λ e h. absurd (subst (Has e) none h) }
 
-pub tried_start : (kept same : List StartedGroup) (starting : Option StartedGroup) (e : StartedGroup) (spare : ℕ) (index : Index) → same ≡ kept → starting ≡ Some e → NoneTwice is_same_group kept → find_group e.id e.group kept ≡ None → HasRoomFor e spare index
+pub tried_start : (kept same : List StartedGroup) (starting : Option StartedGroup) (e : StartedGroup) (spare : ℕ) (index : Index) → same ≡ kept → starting ≡ Some e → NoneTwice is_same_group kept → find_group e.id e.group kept ≡ None → HasRoomToEnter e spare index
     → AreTried same spare (option_to_list starting) index
 tried_start kept same starting e spare index is one once absent room =
     subst (λ es. AreTried es spare (option_to_list starting) index) (sym is)

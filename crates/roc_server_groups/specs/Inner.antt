@@ -1,4 +1,5 @@
 -- What stands here is of private functions alone, or is a law that a type needs
+pub mod EachCell
 pub mod Keyed
 pub mod Looks
 pub mod Runs

@@ -27,11 +27,11 @@ pub(crate) fn place_of_group(started: &StartedGroups, id: TxnId, group: u16) -> 
     started.place(id, group as usize)
 }
 
-/// Whether a group of the transaction has started.
+/// Whether a group of the transaction has started: one look.
 pub fn is_here(started: &StartedGroups, id: TxnId) -> bool
     ensures { result ≡ is_here id started.now.groups }
 {
-    started.first(id).is_some()
+    started.has(id)
 }
 
 /// Whether one has started with another procedure or other arguments.

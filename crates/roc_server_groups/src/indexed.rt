@@ -7,7 +7,7 @@ ghost use Rattle.roc_rows.specs.Cells.{is_cell};
 ghost use Rattle.roc_server_index.specs.GroupRefs.{group_refs_at, is_same_ref, HaveSameRefs, KeepsRoom};
 ghost use Rattle.roc_step.specs.Start.{uses_cell};
 ghost use Rattle.roc_server_groups.specs.Indexed.{group_ref_of, HasRoomAtCells, IsAddedAt, AreGroupRefsOf, AreOut};
-ghost use Rattle.roc_server_groups.specs.Inner.Looks.{IsOutOf, IsOut};
+ghost use Rattle.roc_server_groups.specs.Inner.Looks.{IsOutOf, IsOutOfAll};
 
 use crate::groups::group_at;
 use crate::started_groups::StartedGroups;
@@ -61,7 +61,7 @@ pub fn take_out(index: &mut Index, started: &StartedGroups, ids: &[TxnId])
 // Takes out the references of a transaction: they stand at the cells that its groups use.
 fn take_out_one(index: &mut Index, started: &StartedGroups, id: TxnId)
     requires { AreGroupRefsOf started.now.groups index.old }
-    ensures { IsOut id index.old index.new }
+    ensures { IsOutOfAll id index.old index.new }
 {
     for number in 0..started.numbers() {
         let group = group_at(started, started.place(id, number));

@@ -18,6 +18,7 @@
 
 mod begun;
 mod commitoks;
+mod each_cell;
 mod group_key;
 mod groups;
 mod indexed;

@@ -11,6 +11,7 @@ ghost use Rattle.roc_server_groups.specs.Inner.Looks.{IsGroupRefWithin, is_looke
 ghost use Rattle.roc_step.specs.Start.{conflicts_before, edge_to, users};
 
 use crate::begun::is_immediate;
+use crate::each_cell::each_cell;
 use crate::lent_groups::LentGroups;
 use crate::started_groups::StartedGroups;
 use roc_base::{Edge, Edges, NoMemory, Shard, Steps, TxnId};
@@ -50,8 +51,9 @@ pub fn entries<L: Ledger>(
     ensures steps { (decided : List Id) → IsIndexOf index.now decided started.now.groups
         → steps.new ≤ steps.old + length (users plan.now decided starting.immediate cells.now started.now.groups) }
 {
+    let uses = each_cell(alloc, cells)?;
     let lent = LentGroups::new(started, index);
-    lent_entries(alloc, plan, &lent, starting, cells, steps)
+    lent_entries(alloc, plan, &lent, starting, &uses, steps)
 }
 
 /// The same where no steps are counted.

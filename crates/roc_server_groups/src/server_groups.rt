@@ -13,7 +13,7 @@ ghost use Rattle.roc_server_index.specs.GroupRefs.{HaveSameRefs};
 ghost use Rattle.roc_server_groups.specs.Groups.{is_same_group};
 ghost use Rattle.roc_server_groups.specs.GroupsNow.{groups_behind, others, AreDecidedBehind, AreOnce, IsUntried, RunsDecided};
 ghost use Rattle.roc_server_groups.specs.Indexed.{group_ref_of, AreGroupRefsOf, IsAddedAt, IsIndexOf};
-ghost use Rattle.roc_server_groups.specs.Inner.Tried.{AreUndecided, CanEnter, HasRoomFor};
+ghost use Rattle.roc_server_groups.specs.Inner.Tried.{AreUndecided, CanEnter, HasRoomToEnter};
 ghost use Rattle.roc_server_groups.specs.Runs.{restored};
 
 use crate::indexed::{add_group, reserve_group, take_out};
@@ -149,7 +149,7 @@ impl ServerGroups {
         ensures kept { self.new.kept ≡ groups_behind over.now self.old }
         ensures untried { IsUntried self.new }
         ensures index { (before after : List Id) → IsIndexOf self.old.index before self.old.kept → AreDecidedBehind before newly.now over.now after
-            → ((e : Group) → Has e self.old.starting → (is_listed is_txn before e.id ≡ false) × (is_listed is_txn newly.now e.id ≡ false)) → IsIndexOf self.new.index after self.new.kept }
+            → ((e : Group) → Has e self.old.starting → is_listed is_txn before e.id ≡ false) → IsIndexOf self.new.index after self.new.kept }
         ensures once { AreOnce self.new }
     {
         let starting = mem::replace(&mut self.starting, None);
@@ -225,7 +225,7 @@ fn make_room(
     index: &mut Index,
     starting: &Option<StartedGroup>,
 ) -> Result<(), NoMemory>
-    ensures ok { OnOk result ((e : Group) → starting.now ≡ Some e → HasRoomFor e started.new.spare index.new) }
+    ensures ok { OnOk result ((e : Group) → starting.now ≡ Some e → HasRoomToEnter e started.new.spare index.new) }
     ensures groups { started.new.groups ≡ started.old.groups }
     ensures refs { HaveSameRefs index.old index.new }
 {
@@ -241,7 +241,7 @@ fn make_room_for(
     index: &mut Index,
     group: &StartedGroup,
 ) -> Result<(), NoMemory>
-    ensures ok { OnOk result (HasRoomFor group.now started.new.spare index.new) }
+    ensures ok { OnOk result (HasRoomToEnter group.now started.new.spare index.new) }
     ensures groups { started.new.groups ≡ started.old.groups }
     ensures refs { HaveSameRefs index.old index.new }
 {

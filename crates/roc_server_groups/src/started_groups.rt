@@ -1,12 +1,13 @@
 //! The groups that have started on a server, found by their transactions and numbers.
-ghost use Rattle.std.specs.Prelude.{◌≡◌, ◌<◌, ◌≤◌, ◌++◌, ◌∷◌, [], length, not, map, filter, position, slice_get, slice_set, None, Some, OnOk};
+ghost use Rattle.std.specs.Prelude.{◌≡◌, ◌<◌, ◌≤◌, ◌++◌, ◌∷◌, [], List, length, not, map, filter, position, slice_get, slice_set, None, Some, OnOk};
 ghost use Rattle.indexmap.specs.IndexMap.{keys, values, index_map_len, spare};
 ghost use Rattle.std.specs.List.Sorted.{IsStrictlySortedBy};
 ghost use Rattle.roc_base.specs.TxnId.{is_txn, txn_cmp};
 ghost use Rattle.roc_sequence.specs.Places.{is_listed};
 ghost use Rattle.roc_step.specs.declared.started.StartedGroup.{StartedGroup as Group};
-ghost use Rattle.roc_server_groups.specs.Inner.Keyed.{AreBelow, AreKeyed, IsOnceHere, key_of, lesser};
-ghost use Rattle.roc_step.specs.State.{find_group, is_group};
+ghost use Rattle.roc_server_groups.specs.GroupsNow.{others};
+ghost use Rattle.roc_server_groups.specs.Inner.Keyed.{HaveNumbersBelow, AreFirsts, AreKeyed, IsOnceHere, group_key_of};
+ghost use Rattle.roc_step.specs.State.{find_group, is_group, is_here};
 
 use crate::group_key::GroupKey;
 use indexmap::IndexMap;
@@ -14,26 +15,30 @@ use roc_base::{NoMemory, Nums, TxnId};
 use roc_depgraph::is_among_rising;
 use roc_step::StartedGroup;
 use std::alloc::Global;
+use std::collections::HashMap;
 use std::marker::Model;
 
 /// The groups in the order of their arrival.
 #[derive(Drop)]
 pub struct StartedGroups {
     groups: IndexMap<GroupKey, StartedGroup>,
+    // The number of the first group of each transaction that has one.
+    firsts: HashMap<TxnId, usize>,
     // The numbers of all groups are below: those of one transaction are looked for by number.
     numbers: usize,
 }
 
 impl Model for StartedGroups {
+    ghost use Rattle.std.specs.Prelude.{min};
     ghost use Rattle.indexmap.specs.IndexMap.{values, spare};
-    ghost use Rattle.roc_server_groups.specs.Inner.Keyed.{AreKeyed};
+    ghost use Rattle.roc_server_groups.specs.Inner.Keyed.{AreFoundBy};
     ghost use Rattle.roc_server_groups.specs.Entered.{Entered};
 
     ghost Value = { Entered };
 
-    ghost view = { λ s. record { groups = values s.groups; spare = spare s.groups } };
+    ghost view = { λ s. record { groups = values s.groups; spare = min (spare s.groups) (spare s.firsts) } };
 
-    ghost invariant = { λ s. AreKeyed s.groups.entries s.numbers };
+    ghost invariant = { λ s. AreFoundBy s.groups.entries s.firsts.entries s.numbers };
 }
 
 impl StartedGroups {
@@ -43,6 +48,7 @@ impl StartedGroups {
     {
         StartedGroups {
             groups: IndexMap::new(alloc),
+            firsts: HashMap::new(alloc),
             numbers: 0,
         }
     }
@@ -56,7 +62,7 @@ impl StartedGroups {
 
     // What the numbers of all groups are below.
     pub(crate) fn numbers(&self) -> usize
-        ensures { AreBelow result self.now.groups }
+        ensures { HaveNumbersBelow result self.now.groups }
     {
         self.numbers
     }
@@ -67,6 +73,7 @@ impl StartedGroups {
         ensures ok { OnOk result (more ≤ self.new.spare) }
     {
         self.groups.reserve(more)?;
+        self.firsts.reserve(more)?;
         Ok(())
     }
 
@@ -76,15 +83,17 @@ impl StartedGroups {
         requires room { 0 < self.old.spare }
         ensures { self.new.groups ≡ self.old.groups ++ group ∷ [] }
     {
+        note_first(&mut self.firsts, &group);
         put(&mut self.groups, &mut self.numbers, group);
     }
 
-    /// Forgets the groups of these transactions, which rise.
+    /// Forgets the groups of these transactions, which rise. Takes no memory. It goes through all groups once, however few go.
     pub fn forget(&mut self, ids: &[TxnId])
         requires { IsStrictlySortedBy txn_cmp ids.now }
         ensures { self.new.groups ≡ filter (λ e. not (is_listed is_txn ids.now e.id)) self.old.groups }
     {
         keep_others(&mut self.groups, ids);
+        keep_other_firsts(&mut self.firsts, ids);
     }
 
     // Where a group of a transaction stands.
@@ -95,15 +104,21 @@ impl StartedGroups {
         self.groups.get_index_of(&GroupKey { id, number })
     }
 
-    // Where the first group of a transaction stands.
+    // Whether a transaction has a group: one look.
+    pub(crate) fn has(&self, id: TxnId) -> bool
+        ensures { result ≡ is_here id self.now.groups }
+    {
+        self.firsts.contains_key(&id)
+    }
+
+    // Where the first group of a transaction stands: two looks.
     pub(crate) fn first(&self, id: TxnId) -> Option<usize>
         ensures { result ≡ position (λ e. is_txn e.id id) self.now.groups }
     {
-        let mut first = None;
-        for number in 0..self.numbers {
-            first = lesser(first, self.place(id, number));
+        match self.firsts.get(&id) {
+            Some(number) => self.place(id, *number),
+            None => None,
         }
-        first
     }
 
     // Keeps with the group at an index what it gave, where it gave something. Gives what was kept of this before.
@@ -115,6 +130,18 @@ impl StartedGroups {
     {
         set_later(&mut self.groups, at, later)
     }
+}
+
+// Notes the number of a group that arrives, where it is the first of its transaction. There is room.
+fn note_first(firsts: &mut HashMap<TxnId, usize>, group: &StartedGroup)
+    requires room { 0 < spare firsts.old }
+    ensures { (es : List Group) → AreFirsts firsts.old.entries es → AreFirsts firsts.new.entries (es ++ group.now ∷ []) }
+{
+    if firsts.contains_key(&group.id) {
+        return;
+    }
+    let noted: Result<_, _> = firsts.insert(group.id, group.group as usize);
+    noted.unwrap();
 }
 
 // Puts a group at the end, where there is room.
@@ -140,14 +167,12 @@ fn keep_others(groups: &mut IndexMap<GroupKey, StartedGroup>, ids: &[TxnId])
     groups.retain(|key, _| !is_among_rising(ids, key.id));
 }
 
-// The lesser of two places, where there are two.
-fn lesser(a: Option<usize>, b: Option<usize>) -> Option<usize>
-    ensures { result ≡ lesser a b }
+// The numbers of these transactions go.
+fn keep_other_firsts(firsts: &mut HashMap<TxnId, usize>, ids: &[TxnId])
+    ensures { (es : List Group) → AreFirsts firsts.old.entries es → AreFirsts firsts.new.entries (others ids.now es) }
 {
-    match (a, b) {
-        (Some(first), Some(other)) => Some(first.min(other)),
-        (Some(first), None) => Some(first),
-        (None, other) => other,
+    for id in ids {
+        firsts.remove(id);
     }
 }
 
@@ -162,7 +187,7 @@ fn set_later(
     ensures before { (e : Group) → slice_get (values groups.old) at ≡ Some e → result ≡ e.later }
     ensures spare { spare groups.new ≡ spare groups.old }
     ensures keys { keys groups.new ≡ keys groups.old }
-    ensures keyed { map key_of (values groups.new) ≡ map key_of (values groups.old) }
+    ensures keyed { map group_key_of (values groups.new) ≡ map group_key_of (values groups.old) }
 {
     let group = &mut groups[at];
     std::mem::replace(&mut group.later, later)

@@ -41,5 +41,5 @@ abbrev pub IsOutOf : TxnId → (Cell → Bool) → (old new : List (Cell × Cell
 IsOutOf id passes old new = (c : Cell) → group_refs_at c new ≡ (if passes c then without id (group_refs_at c old) else group_refs_at c old)
 
 -- it is out of all cells
-abbrev pub IsOut : TxnId → (old new : List (Cell × CellRefs)) → Type 0
-IsOut id old new = (c : Cell) → group_refs_at c new ≡ without id (group_refs_at c old)
+abbrev pub IsOutOfAll : TxnId → (old new : List (Cell × CellRefs)) → Type 0
+IsOutOfAll id old new = (c : Cell) → group_refs_at c new ≡ without id (group_refs_at c old)

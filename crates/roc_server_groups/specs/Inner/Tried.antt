@@ -12,14 +12,14 @@ use Rattle.roc_server_groups.specs.Groups.{is_same_group}
 use Rattle.roc_server_groups.specs.Indexed.{HasRoomAtCells}
 
 -- there is room for a group, and for its references
-pub record HasRoomFor (e : StartedGroup) (spare : ℕ) (index : List (Cell × CellRefs)) : Type 0 where
+pub record HasRoomToEnter (e : StartedGroup) (spare : ℕ) (index : List (Cell × CellRefs)) : Type 0 where
   pub place : 0 < spare
   pub cells : HasRoomAtCells e.cells index
 
 -- it is not here, and there is room for it
 pub record CanEnter (e : StartedGroup) (started : List StartedGroup) (spare : ℕ) (index : List (Cell × CellRefs)) : Type 0 where
   pub absent : find_group e.id e.group started ≡ None
-  pub room : HasRoomFor e spare index
+  pub room : HasRoomToEnter e spare index
 
 -- each group that is kept is there once, and each that starts can enter
 pub record AreTried (kept : List StartedGroup) (spare : ℕ) (starting : List StartedGroup) (index : List (Cell × CellRefs)) : Type 0 where

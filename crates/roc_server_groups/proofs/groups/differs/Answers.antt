@@ -3,7 +3,7 @@ use Rattle.std.specs.Option.{option_and_then, option_map_or}
 use Rattle.roc_base.specs.Equality.{is_nums}
 use Rattle.roc_step.specs.declared.started.StartedGroup.{StartedGroup}
 use Rattle.roc_step.specs.State.{is_group}
-use Rattle.roc_server_groups.specs.Inner.Keyed.{AreBelow}
+use Rattle.roc_server_groups.specs.Inner.Keyed.{HaveNumbersBelow}
 use Rattle.roc_server_groups.proofs.Placed.{found_by_place}
 use Rattle.roc_server_groups.proofs.KeyedGroups.{any_none, any_more, any_all, any_found}
 use Rattle.roc_server_groups.proofs.groups.differs.Goals as goal
@@ -26,5 +26,5 @@ returns-then-is_other c =
 
 pub returns : goal.returns
 returns c =
-    let below : AreBelow c.loop-number.number c.args.started.now.groups = λ e h. let l : e.group < c.numbers-number-end.result = c.numbers-number-end.ensures e h in omega (arith, c.loop-number-test.false) in
+    let below : HaveNumbersBelow c.loop-number.number c.args.started.now.groups = λ e h. let l : e.group < c.numbers-number-end.result = c.numbers-number-end.ensures e h in omega (arith, c.loop-number-test.false) in
     sym c.loop-number.invariant ∙ any_all c.args.id (λ (e : StartedGroup). not (e.proc == c.args.proc && is_nums e.args c.args.args.now)) c.loop-number.number c.args.started.now.groups below

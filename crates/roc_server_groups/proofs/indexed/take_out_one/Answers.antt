@@ -4,7 +4,7 @@ use Rattle.std.specs.Option.{option_and_then, option_map_or}
 use Rattle.roc_server_index.specs.GroupRefs.{group_refs_at, without}
 use Rattle.roc_step.specs.Start.{uses_cell}
 use Rattle.roc_step.specs.State.{is_group}
-use Rattle.roc_server_groups.specs.Inner.Keyed.{AreBelow}
+use Rattle.roc_server_groups.specs.Inner.Keyed.{HaveNumbersBelow}
 use Rattle.roc_server_groups.proofs.IndexSteps.{out_more, out_of_all}
 use Rattle.roc_server_groups.proofs.Placed.{found_by_place}
 use Rattle.roc_server_groups.proofs.KeyedGroups.{any_none, any_more, any_all, passes_up_to}
@@ -28,5 +28,5 @@ returns c =
     let es = c.args.started.now.groups in
     let old = c.args.index.now in
     let n = c.loop-number.number in
-    let below : AreBelow n es = λ e h. let l : e.group < c.numbers-number-end.result = c.numbers-number-end.ensures e h in omega (arith, c.loop-number-test.false) in
+    let below : HaveNumbersBelow n es = λ e h. let l : e.group < c.numbers-number-end.result = c.numbers-number-end.ensures e h in omega (arith, c.loop-number-test.false) in
     out_of_all id es old c.loop-number.index c.requires (λ d. c.loop-number.invariant d ∙ ap (λ t. if t then without id (group_refs_at d old) else group_refs_at d old) (any_all id (uses_cell d) n es below))

@@ -2,7 +2,7 @@ use Rattle.std.proofs.Common.{◌≡◌, ◌∙◌, map, Some, slice_set, sym, a
 use Rattle.indexmap.proofs.CallerLemmas.{keys-with_value_at}
 use Rattle.indexmap.specs.IndexMap.{values}
 use Rattle.roc_step.specs.declared.started.StartedGroup.{StartedGroup}
-use Rattle.roc_server_groups.specs.Inner.Keyed.{key_of}
+use Rattle.roc_server_groups.specs.Inner.Keyed.{group_key_of}
 use Rattle.roc_server_groups.proofs.KeyedGroups.{keys-set, values-set}
 use Rattle.roc_server_groups.proofs.started_groups.set_later.Goals as goal
 
@@ -19,4 +19,4 @@ returns-clause-keys c = keys-with_value_at c.args.groups.now c.args.at _
 
 pub returns-clause-keyed : goal.returns-clause-keyed
 returns-clause-keyed c =
-    ap (map key_of) (values-set c.args.groups.now.entries c.args.at _) ∙ keys-set (values c.args.groups.now) c.args.at c.index_mut-group.result.now _ c.index_mut-group.ensures.value refl
+    ap (map group_key_of) (values-set c.args.groups.now.entries c.args.at _) ∙ keys-set (values c.args.groups.now) c.args.at c.index_mut-group.result.now _ c.index_mut-group.ensures.value refl

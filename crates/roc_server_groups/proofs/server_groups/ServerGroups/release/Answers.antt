@@ -58,7 +58,7 @@ returns-clause-index c before after h d undecided =
     let ran = index_same was.index before kept was.started.groups (restored_same was.earlier.items was.started.groups) (subst (λ (g : GroupsNow). IsIndexOf g.index before g.kept) (sym c.self.view_is) h) in
     let starting = ap option_to_list c.replace-starting.ensures.value ∙ ap (λ (g : GroupsNow). g.starting) c.self.view_is in
     subst (IsIndexOf c.keep_tried.new.index after) (sym (restored-none c.clear.new.self.items c.keep_tried.new.started.groups c.clear.ensures.items))
-    (c.keep_tried.ensures.index before after ran d (λ e k. (undecided e (subst (Has e) starting k)).0))
+    (c.keep_tried.ensures.index before after ran d (λ e k. undecided e (subst (Has e) starting k)))
 
 pub returns-clause-once : goal.returns-clause-once
 returns-clause-once c =

@@ -1,17 +1,15 @@
-use Rattle.std.proofs.Common.{◌<◌, ◌∙◌, ap, sym, subst, arith}
-use Rattle.roc_server_groups.specs.Inner.Keyed.{AreBelow, lesser}
+use Rattle.std.proofs.Common.{◌∙◌, ap, subst, sym}
 use Rattle.roc_server_groups.specs.Entered.{Entered}
-use Rattle.roc_server_groups.proofs.KeyedGroups.{first_none, first_more, first_all, are_below}
+use Rattle.roc_server_groups.specs.Inner.Keyed.{AreFirsts}
+use Rattle.roc_server_groups.proofs.FirstGroups.{first_by_number, none_by_first}
 use Rattle.roc_server_groups.proofs.started_groups.StartedGroups.first.Goals as goal
 
-pub loop-number-init : goal.loop-number-init
-loop-number-init c = first_none c.args.id c.args.self.now.groups
+pub returns-in-Some : goal.returns-in-Some
+returns-in-Some c =
+    let noted : AreFirsts c.self.inside.firsts.entries c.args.self.now.groups = subst (AreFirsts c.self.inside.firsts.entries) (ap (λ (v : Entered). v.groups) c.self.view_is) c.self.invariant.first in
+    c.place.ensures.place ∙ first_by_number c.self.inside.firsts.entries c.args.self.now.groups noted c.args.id c.in-Some.number.now (sym c.in-Some.ensures.value)
 
-pub loop-number-preserved : goal.loop-number-preserved
-loop-number-preserved c =
-    c.lesser-first.ensures ∙ (λ i. lesser (c.loop-number.invariant i) (c.place.ensures.place i)) ∙ sym (first_more c.args.id c.loop-number.number c.args.self.now.groups)
-
-pub returns : goal.returns
-returns c =
-    let below : AreBelow c.self.inside.numbers c.args.self.now.groups = subst (AreBelow c.self.inside.numbers) (ap (λ (v : Entered). v.groups) c.self.view_is) (are_below c.self.inside.groups.entries c.self.inside.numbers c.self.invariant) in
-    c.loop-number.invariant ∙ first_all c.args.id c.loop-number.number c.args.self.now.groups (λ e h. let l : e.group < c.self.inside.numbers = below e h in omega (arith, c.loop-number-test.false))
+pub returns-in-None : goal.returns-in-None
+returns-in-None c =
+    let noted : AreFirsts c.self.inside.firsts.entries c.args.self.now.groups = subst (AreFirsts c.self.inside.firsts.entries) (ap (λ (v : Entered). v.groups) c.self.view_is) c.self.invariant.first in
+    none_by_first c.self.inside.firsts.entries c.args.self.now.groups noted c.args.id (sym c.in-None.ensures.value)

@@ -1,0 +1,7 @@
+use Rattle.std.proofs.Common.{drop}
+use Rattle.roc_server_groups.specs.Inner.EachCell.{AreSameUses}
+use Rattle.roc_server_groups.proofs.each_cell.each_cell.Given as goal
+
+-- what is left of the uses from here on
+abbrev pub invariant-loop-at : goal.invariant-loop-at
+invariant-loop-at l = AreSameUses (drop l.at l.cells) l.uses.items
