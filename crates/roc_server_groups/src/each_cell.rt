@@ -33,6 +33,5 @@ fn put_use(uses: &mut Vec<Access>, access: &Access) -> Result<(), NoMemory>
 fn is_covered(uses: &[Access], access: &Access) -> bool
     ensures { result ≡ list_any (λ other. covers other access.now) uses.now }
 {
-    uses.iter()
-        .any(|other| other.cell == access.cell && (other.writes || !access.writes))
+    uses.iter().any(|other| other.cell == access.cell && (other.writes || !access.writes))
 }

@@ -15,6 +15,6 @@ loop-at-preserved c =
     let within : at < length cells = omega arith in
     let next : at + 1 ≡ c.loop-at.at = omega arith in
     let rest : drop at cells ≡ a ∷ drop c.loop-at.at cells
-        = drop_more cells at a within ∙ (λ i. sym c.index-cells-at.is i ∷ drop (next i) cells) in
+    = drop_more cells at a within ∙ (λ i. sym c.index-cells-at.is i ∷ drop (next i) cells) in
     let more = one_used (drop c.loop-at.at cells) uses a c.loop-at.invariant in
     subst (λ us. AreSameUses (drop at cells) us) (sym c.in_ok-put_use.ensures) (subst (λ xs. AreSameUses xs (with_use a uses)) (sym rest) more)

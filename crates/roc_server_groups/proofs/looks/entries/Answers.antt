@@ -16,7 +16,7 @@ returns-clause-entries g c decided indexed =
     let uses = c.deref.result.now in
     let lent = c.new-lent.ensures in
     let there = subst (λ (s : Entered). IsIndexOf c.new-lent.result.index.now decided s.groups) (sym lent.started)
-        (subst (λ (refs : List (Cell × CellRefs)). IsIndexOf refs decided c.args.started.now.groups) (sym lent.index) indexed) in
+    (subst (λ (refs : List (Cell × CellRefs)). IsIndexOf refs decided c.args.started.now.groups) (sym lent.index) indexed) in
     let same = same_before plan decided p.id p.immediate c.args.cells.now uses (subst (AreSameUses c.args.cells.now) (sym c.deref.ensures.value) c.in_ok-uses.ensures) in
     subst (λ before. IfOk c.lent_entries.result (λ edges. edges ≡ united (map (edge_to p.shard p.immediate) (filter before c.args.started.now.groups)))) same
     (subst (λ (s : Entered). IfOk c.lent_entries.result (λ edges. edges ≡ united (map (edge_to p.shard p.immediate) (filter (conflicts_before plan decided p.id p.immediate uses) s.groups)))) lent.started
@@ -29,7 +29,7 @@ returns-clause-steps g c decided indexed =
     let uses = c.deref.result.now in
     let lent = c.new-lent.ensures in
     let there = subst (λ (s : Entered). IsIndexOf c.new-lent.result.index.now decided s.groups) (sym lent.started)
-        (subst (λ (refs : List (Cell × CellRefs)). IsIndexOf refs decided c.args.started.now.groups) (sym lent.index) indexed) in
+    (subst (λ (refs : List (Cell × CellRefs)). IsIndexOf refs decided c.args.started.now.groups) (sym lent.index) indexed) in
     let same = subst (AreSameUses c.args.cells.now) (sym c.deref.ensures.value) c.in_ok-uses.ensures in
     let few = fewer_users plan decided immediate c.args.cells.now uses c.args.started.now.groups same in
     let steps = subst (λ (s : Entered). c.lent_entries.new.steps ≤ c.args.steps.now + length (users plan decided immediate uses s.groups)) lent.started (c.lent_entries.ensures.steps decided there) in
