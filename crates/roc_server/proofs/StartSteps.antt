@@ -33,7 +33,7 @@ use Rattle.roc_step.specs.State.{first_answer, find_group, ServerState, ServerSt
 use Rattle.roc_sequence.specs.Places.{is_listed, IsListed}
 use Rattle.roc_sequence.proofs.Places.{unlisted_test}
 use Rattle.roc_step.specs.New.{AreDecided}
-use Rattle.roc_server_lists.specs.ListsNow.{is_left, IsNoneLeft}
+use Rattle.roc_server_lists.specs.ListsNow.{is_missing_at, IsNoneLeft}
 use Rattle.roc_step.specs.State.{Lists}
 
 pub nothing_led : (known : List KnownList) → AreLedTo known [] []
@@ -155,7 +155,7 @@ here_more id xs e h = let a = any_has (λ (x : StartedGroup). is_txn x.id id) xs
 -- with one more group nothing more is left
 pub left_more : (started : List StartedGroup) (l : Lists) (e : StartedGroup) → IsNoneLeft started l → IsNoneLeft (started ++ e ∷ []) l
 left_more started l e none =
-    all_weaker (λ d. is_left started l d ≡ false) (λ d. is_left (started ++ e ∷ []) l d ≡ false)
+    all_weaker (λ d. is_missing_at started l.links l.waiting.asked d ≡ false) (λ d. is_missing_at (started ++ e ∷ []) l.links l.waiting.asked d ≡ false)
     (λ d. left_still (is_known l.links d.from) (is_here d.from started) (was_asked_for d.from l.waiting.asked) (is_known l.links d.from) (is_here d.from (started ++ e ∷ [])) (was_asked_for d.from l.waiting.asked)
     (λ h. h) (here_more d.from started e) (λ h. h))
     (all_entries l.links) none

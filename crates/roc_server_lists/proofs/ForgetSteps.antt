@@ -1,5 +1,6 @@
 -- What is over is forgotten
 use Rattle.std.proofs.Common.{◌≡◌, ◌&&◌, Bool, true, false, not, List, map, filter, refl, sym, ap, subst, ◌∙◌}
+use Rattle.std.proofs.Math.Bool.{and_comm}
 use Rattle.std.proofs.lemmas.Bool.{false≢true, not-true, not_from_false}
 use Rattle.roc_sequence.specs.Lists.{Has}
 use Rattle.roc_sequence.specs.Places.{is_listed, IsListed, NoneTwice}
@@ -23,7 +24,7 @@ use Rattle.roc_server_groups.proofs.IndexSteps.{filter_both}
 use Rattle.roc_server_lists.specs.declared.parts.ListParts.{ListParts}
 use Rattle.roc_server_lists.specs.Inner.Keeping.{Forgets, IsOverOf}
 use Rattle.roc_server_lists.specs.Inner.Over.{TakenComponents}
-use Rattle.roc_server_lists.specs.Inner.Parts.{kept_in, AreConsistent, AreRight}
+use Rattle.roc_server_lists.specs.Inner.Parts.{kept_in, AreConsistent, AreRightParts}
 use Rattle.roc_server_lists.specs.Inner.Trials.{lists_forgetting}
 use Rattle.roc_server_news.proofs.FollowedLinks.{links_left}
 use Rattle.roc_server_lists.proofs.SomeLeft.{members, member_all, member_some, members_once, none_of_others, not_in_two, some_member}
@@ -41,7 +42,7 @@ module _ (was : ListParts) (gone : List TxnId) (o : IsOverOf was gone) where
   abbrev stays : TxnId → Bool
   stays t = not (forgotten t)
 
-  right : AreRight was
+  right : AreRightParts was
   right = o.right
 
   are : IsRisingListOf (IsListed is_txn (over was.marks components)) gone
@@ -105,15 +106,9 @@ module _ (was : ListParts) (gone : List TxnId) (o : IsOverOf was gone) where
   open_now : filter (λ a. stays a.id) was.waits.fetches ≡ filter (unknown left_links) some_asked
   open_now =
       ap (filter (λ (a : OpenFetch). stays a.id)) right.open_unknown
-      ∙ filter_both (unknown was.table.links) (λ a. stays a.id) both (λ a. swap (unknown was.table.links a) (stays a.id)) was.waits.waiting.asked
+      ∙ filter_both (unknown was.table.links) (λ a. stays a.id) both (λ a. and_comm (unknown was.table.links a) (stays a.id)) was.waits.waiting.asked
       ∙ sym (filter_both (λ (a : OpenFetch). stays a.id) (unknown left_links) both (λ a. alike a (forgotten a.id) refl) was.waits.waiting.asked)
     where
-      swap : (b c : Bool) → (b && c) ≡ (c && b)
-      swap true true = refl
-      swap true false = refl
-      swap false true = refl
-      swap false false = refl
-
       alike : (a : OpenFetch) (b : Bool) → forgotten a.id ≡ b → (not b && unknown left_links a) ≡ (not b && unknown was.table.links a)
       alike a true e = refl
       alike a false e = ap not (same_known a.id e)
@@ -162,7 +157,7 @@ module _ (was : ListParts) (gone : List TxnId) (o : IsOverOf was gone) where
         (subst (AreLinksOf (is_ended was.marks) (filter (λ k. stays k.of) was.table.known)) (sym links_are)
         (links_left (is_ended was.marks) forgotten were_ended stays was.table.known was.table.links right.linked))
 
-    right_now : AreRight new
+    right_now : AreRightParts new
     right_now = record {
       decided_rising = decided_are.rising;
       decided_only = still_decided;

@@ -20,7 +20,8 @@ use Rattle.roc_step.proofs.Asking.{asked_still, asked_all}
 use Rattle.roc_step.proofs.Skipped.{left_still, left_by_third, passed, all_skipped}
 use Rattle.roc_step.specs.Links.{all_entries}
 use Rattle.roc_step.specs.State.{is_here}
-use Rattle.roc_server_lists.specs.Inner.Finding.{is_missing_at, missing_at}
+use Rattle.roc_server_lists.specs.ListsNow.{is_missing_at}
+use Rattle.roc_server_lists.specs.Inner.Finding.{missing_at}
 
 module _ (started : List StartedGroup) (asked : List OpenFetch) where
   -- that an entry's transaction is missing is a test of that transaction

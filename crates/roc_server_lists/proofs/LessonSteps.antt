@@ -25,10 +25,11 @@ use Rattle.roc_server_lists.specs.declared.parts.ListParts.{ListParts}
 use Rattle.roc_server_lists.specs.declared.trial.Lesson.{Lesson}
 use Rattle.roc_server_lists.specs.ListsNow.{AreOver}
 use Rattle.roc_server_lists.specs.Inner.Keeping.{IsOverOf, KeepsFound}
-use Rattle.roc_server_lists.specs.Inner.Parts.{kept_in, AreRight}
+use Rattle.roc_server_lists.specs.Inner.Parts.{kept_in, AreRightParts}
 use Rattle.roc_server_lists.specs.Inner.Trials.{unlearnt, with_lists, AreListsTried}
 use Rattle.roc_server_news.proofs.Learning.{keeps_front}
 use Rattle.roc_server_news.proofs.NotOfNews.{unknown_not_of}
+use Rattle.roc_server_lists.proofs.AlikeTests.{filter_alike}
 
 -- what is listed among components, old and new
 pub among_more : (old more : List (List TxnId)) (t : TxnId) → IsListed is_txn (flat_map (λ c. c) (old ++ more)) t → IsListed is_txn (flat_map (λ c. c) old) t ⊎ IsListed is_txn (flat_map (λ c. c) more) t
@@ -49,9 +50,6 @@ once_more old more decided links once were new =
 
 pub some_more : (old more : List (List TxnId)) (decided : List TxnId) (links : List KnownList) → ((c : List TxnId) → Has c old → c ≢ []) → AreNewTaken (IsListed is_txn decided) links more → (c : List TxnId) → Has c (old ++ more) → c ≢ []
 some_more old more decided links some new c has = elim (has_append c old more has) [ inl k ↦ some c k | inr k ↦ new.taken.some c k ]
-
-filter_alike : {A : Type 0} (p q : A → Bool) (xs : List A) → ((x : A) → p x ≡ q x) → filter p xs ≡ filter q xs
-filter_alike p q xs h = λ i. filter (λ x. h x i) xs
 
 module _ (k new : ListParts) (l : Lesson) (p : AreListsTried k l) (n : KeepsFound k new l.news.items l.found) where
   abbrev was : ListParts
@@ -75,7 +73,7 @@ module _ (k new : ListParts) (l : Lesson) (p : AreListsTried k l) (n : KeepsFoun
   abbrev asks : List OpenFetch
   asks = l.found.asks.items
 
-  sound : AreRight was
+  sound : AreRightParts was
   sound = p.sound.right
 
   all_is : k.table.links ≡ all
@@ -106,7 +104,7 @@ module _ (k new : ListParts) (l : Lesson) (p : AreListsTried k l) (n : KeepsFoun
       let old = filter (unknown was.table.links) was.waits.waiting.asked in
       n.fetches
       ∙ (λ i. open_after (sound.open_unknown i) news asks)
-      ∙ ap (with_all_asked asks) (filter_alike (λ (a : OpenFetch). not (list_any (λ (k : KnownList). is_txn k.of a.id) news)) (λ (a : OpenFetch). not (list_any (λ (k : KnownList). is_txn k.of a.id) linked)) old (λ a. ap not (of_news a.id)))
+      ∙ ap (with_all_asked asks) (filter_alike (λ (a : OpenFetch). not (list_any (λ (k : KnownList). is_txn k.of a.id) news)) (λ (a : OpenFetch). not (list_any (λ (k : KnownList). is_txn k.of a.id) linked)) old (λ a has. ap not (of_news a.id)))
       ∙ ap (with_all_asked asks) (unknown_not_of (λ (a : OpenFetch). a.id) was.table.links linked was.waits.waiting.asked)
       ∙ sym (some_all_asked (unknown all) asks was.waits.waiting.asked unknown_asks)
       ∙ (λ i. filter (unknown (links_is i)) (sym n.waiting i).asked)
@@ -123,7 +121,7 @@ module _ (k new : ListParts) (l : Lesson) (p : AreListsTried k l) (n : KeepsFoun
   is_decided t l = elim l [ inl a ↦ listed_front is_txn was.table.decided ids t a | inr a ↦ listed_behind is_txn was.table.decided ids t (subst (λ ts. IsListed is_txn ts t) (sym p.ids) a) ]
 
   -- so all is right
-  right_after : AreRight new
+  right_after : AreRightParts new
   right_after =
       let Decided : (t : TxnId) → List KnownList → Type 0 = λ t k. IsDecided k t in
       let Members : List (List TxnId) → TxnId → Type 0 = λ cs t. IsListed is_txn (flat_map (λ c. c) cs) t in

@@ -18,7 +18,7 @@ use Rattle.roc_server_lists.specs.declared.trial.Settling.{Settling}
 use Rattle.roc_server_lists.specs.ListsNow.{AreOver}
 use Rattle.roc_server_lists.specs.Inner.Finding.{AreAlike}
 use Rattle.roc_server_lists.specs.Inner.Over.{TakenComponents}
-use Rattle.roc_server_lists.specs.Inner.Parts.{kept_in, AreConsistent, AreRight}
+use Rattle.roc_server_lists.specs.Inner.Parts.{kept_in, AreConsistent, AreRightParts}
 use Rattle.roc_server_lists.specs.Inner.Trials.{links_settled, IsSettling}
 
 module _ (old new : ListParts) (p : AreAlike old new) where
@@ -29,7 +29,7 @@ module _ (old new : ListParts) (p : AreAlike old new) where
     below = p.marks i;
   }
 
-  alike_right : AreRight old → AreRight new
+  alike_right : AreRightParts old → AreRightParts new
   alike_right h =
       let Members : List (List TxnId) → TxnId → Type 0 = λ cs t. IsListed is_txn (flat_map (λ c. c) cs) t in
       record {

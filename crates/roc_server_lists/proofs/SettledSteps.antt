@@ -1,5 +1,6 @@
 -- Watermarks are heard, and transactions are settled
-use Rattle.std.proofs.Common.{◌≡◌, ◌≤◌, ◌++◌, ◌&&◌, ℕ, Bool, true, false, not, if◌then◌else◌, List, length, filter, refl, sym, ap, subst, ◌∙◌, ◌⊎◌, inl, inr}
+use Rattle.std.proofs.Common.{◌≡◌, ◌≤◌, ◌++◌, ◌&&◌, ℕ, Bool, true, false, not, if◌then◌else◌, List, length, filter, sym, ap, subst, ◌∙◌, ◌⊎◌, inl, inr}
+use Rattle.std.proofs.Math.Bool.{and_comm}
 use Rattle.std.proofs.lemmas.Bool.{and_parts}
 use Rattle.std.specs.List.{flat_map}
 use Rattle.std.specs.List.Sorted.{IsStrictlySortedBy}
@@ -25,7 +26,7 @@ use Rattle.roc_server_lists.specs.declared.trial.Settling.{Settling}
 use Rattle.roc_server_lists.specs.ListsNow.{AreOver}
 use Rattle.roc_server_lists.specs.Inner.Keeping.{IsOverOf}
 use Rattle.roc_server_lists.specs.Inner.Over.{TakenComponents}
-use Rattle.roc_server_lists.specs.Inner.Parts.{kept_in, AreRight}
+use Rattle.roc_server_lists.specs.Inner.Parts.{kept_in, AreRightParts}
 use Rattle.roc_server_lists.specs.Inner.Trials.{links_settled, with_settled, AreMarksTried, IsSettledTried}
 use Rattle.roc_server_news.proofs.FollowedLinks.{links_later, links_marked}
 use Rattle.roc_server_lists.proofs.LessonSteps.{among_more, more_among, once_more, some_more}
@@ -36,7 +37,7 @@ use Rattle.roc_server_lists.proofs.SomeLeft.{members}
 -- ---- watermarks
 
 -- by higher watermarks what is kept is right, too
-pub marks_right : (k : ListParts) (marks : List ℕ) → ((t : TxnId) → is_ended k.marks t ≡ true → is_ended marks t ≡ true) → AreRight k → AreRight (record k { marks = marks })
+pub marks_right : (k : ListParts) (marks : List ℕ) → ((t : TxnId) → is_ended k.marks t ≡ true → is_ended marks t ≡ true) → AreRightParts k → AreRightParts (record k { marks = marks })
 marks_right k marks risen right = record {
   decided_rising = right.decided_rising;
   decided_only = right.decided_only;
@@ -76,7 +77,7 @@ module _ (k : ListParts) (s : Settling) (p : IsSettledTried k s) where
   abbrev before : List TxnId
   before = k.table.decided
 
-  sound : AreRight k
+  sound : AreRightParts k
   sound = p.sound.right
 
   -- ---- what its parts need
@@ -173,18 +174,12 @@ module _ (k : ListParts) (s : Settling) (p : IsSettledTried k s) where
     open_now : waits.fetches ≡ filter (unknown links) waits.waiting.asked
     open_now = fetches_are ∙ go s.is_known ∙ ap (λ (w : Waiting). filter (unknown links) w.asked) (sym waiting_is)
       where
-        swap : (b c : Bool) → (b && c) ≡ (c && b)
-        swap true true = refl
-        swap true false = refl
-        swap false true = refl
-        swap false false = refl
-
         go : (b : Bool) → (if b then k.waits.fetches else filter (λ a. not (done a.id)) k.waits.fetches)
             ≡ filter (unknown links) (if b then k.waits.waiting else without_asked done k.waits.waiting).asked
         go true = sound.open_unknown ∙ (λ i. filter (λ (a : OpenFetch). not (sym (marked_known done k.table.links a.id) i)) k.waits.waiting.asked)
         go false =
             ap (filter (λ (a : OpenFetch). not (done a.id))) sound.open_unknown
-            ∙ filter_both (unknown k.table.links) (λ a. not (done a.id)) both (λ a. swap (unknown k.table.links a) (not (done a.id))) k.waits.waiting.asked
+            ∙ filter_both (unknown k.table.links) (λ a. not (done a.id)) both (λ a. and_comm (unknown k.table.links a) (not (done a.id))) k.waits.waiting.asked
             ∙ sym (filter_both (λ (a : OpenFetch). not (done a.id)) (unknown links) both (λ a i. not (done a.id) && not (marked_known done k.table.links a.id i))
             k.waits.waiting.asked)
 
@@ -195,7 +190,7 @@ module _ (k : ListParts) (s : Settling) (p : IsSettledTried k s) where
     done_ended : (t : TxnId) → done t ≡ true → is_ended s.marks t ≡ true
     done_ended t e = (and_parts (is_txn t p.id) (is_ended s.marks t) (sym (one.one_listed s.marks p.id settled p.found.settled t) ∙ e)).1
 
-    right_now : AreRight (kept_with plain)
+    right_now : AreRightParts (kept_with plain)
     right_now =
         let Members : List (List TxnId) → TxnId → Type 0 = λ cs t. IsListed is_txn (flat_map (λ c. c) cs) t in
         let now : List TxnId = table.decided in
@@ -222,7 +217,7 @@ module _ (k : ListParts) (s : Settling) (p : IsSettledTried k s) where
 
     pub settled_over : (fourth : List TxnId) → fourth ≡ s.over.items → IsOverOf (kept_with table) fourth
     settled_over fourth fourth_is = record {
-      right = subst (λ t. AreRight (kept_with t)) table_is right_now;
+      right = subst (λ t. AreRightParts (kept_with t)) table_is right_now;
       over = subst (AreOver s.marks taken.components) (sym fourth_is) (subst (λ cs. AreOver s.marks cs s.over.items) (sym taken_are) p.found.over);
     }
 

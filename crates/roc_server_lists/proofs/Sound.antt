@@ -27,7 +27,7 @@ use Rattle.roc_server_lists.specs.declared.trial.Settling.{Settling}
 use Rattle.roc_server_lists.specs.declared.trial.Trial.{Trial}
 use Rattle.roc_server_lists.specs.declared.trial.Trial.TheVariants.{Asker, Lists, Marks, Settled}
 use Rattle.roc_server_lists.specs.ListsNow.{lists_behind, newly_of, over_of, AreOver, AreSound, ListsNow}
-use Rattle.roc_server_lists.specs.Inner.Parts.{AreRight}
+use Rattle.roc_server_lists.specs.Inner.Parts.{AreRightParts}
 use Rattle.roc_server_lists.specs.Inner.Trials.{links_settled, lists_now, unlearnt, AreHeld, AreListsTried, AreMarksTried, IsSettledTried}
 use Rattle.roc_server_news.proofs.FollowedLinks.{links_ids}
 use Rattle.roc_server_news.proofs.Learning.{keeps_front}
@@ -43,10 +43,10 @@ record Later (links : List KnownList) (before new forgotten : List TxnId) : Type
   are : AreDecided links later
   behind : AreDecidedBehind before new forgotten later
 
-are_decided : (k : ListParts) → AreRight k → AreDecided k.table.links k.table.decided
+are_decided : (k : ListParts) → AreRightParts k → AreDecided k.table.links k.table.decided
 are_decided k right = record { rising = right.decided_rising; sound = right.decided_only; complete = right.decided_all }
 
-same_later : (k : ListParts) → AreRight k → Later k.table.links k.table.decided [] []
+same_later : (k : ListParts) → AreRightParts k → Later k.table.links k.table.decided [] []
 same_later k right = record {
   later = k.table.decided;
   are = are_decided k right;
@@ -212,7 +212,7 @@ marks_later k m p =
 
 -- ---- whatever is tried
 
-ids_right : (k : ListParts) → AreRight k → map (λ (l : KnownList). l.of) k.table.links ≡ map (λ (l : KnownList). l.of) k.table.known
+ids_right : (k : ListParts) → AreRightParts k → map (λ (l : KnownList). l.of) k.table.links ≡ map (λ (l : KnownList). l.of) k.table.known
 ids_right k right = links_ids (is_ended k.marks) k.table.known k.table.links right.linked
 
 pub sound_of : (k : ListParts) (trial : Option Trial) → AreHeld k trial → AreSound (lists_now k trial)

@@ -27,8 +27,8 @@ use Rattle.roc_server_lists.specs.declared.teaching.Named.{Named}
 use Rattle.roc_server_lists.specs.declared.parts.ListParts.{ListParts}
 use Rattle.roc_server_lists.specs.declared.trial.Lesson.{Lesson}
 use Rattle.roc_server_lists.specs.declared.trial.Trial.TheVariants.{Lists}
-use Rattle.roc_server_lists.specs.ListsNow.{lists_of, AreOver, IsNoneLeft, IsTaught, KeptLists}
-use Rattle.roc_server_lists.specs.Inner.Finding.{asked_by, is_done_at, is_missing_at, links_at, missing_at, AreAlike, AreIdsSame, Finds, Learns}
+use Rattle.roc_server_lists.specs.ListsNow.{is_missing_at, lists_of, AreOver, IsNoneLeft, IsTaught, KeptLists}
+use Rattle.roc_server_lists.specs.Inner.Finding.{asked_by, is_done_at, links_at, missing_at, AreAlike, AreIdsSame, FindsOfNews, Learns}
 use Rattle.roc_server_lists.specs.Inner.Parts.{kept_in, AreConsistent}
 use Rattle.roc_server_lists.specs.Inner.Trials.{after, front, lists_forgetting, tried_of, unlearnt, with_lists, AreLearnt, AreListsTried, HasRoomToKeep}
 use Rattle.roc_server_news.proofs.FollowedLinks.{links_ids, links_learnable, links_learnt}
@@ -128,7 +128,7 @@ module _ (shard : Shard) (started : List StartedGroup) (old mid : ListParts) (ne
           let decided_back : table.decided ≡ old.table.decided = by_decided ∙ decided_is in
           beside table (λ i. record { known = known_back i; links = links_back i; decided = decided_back i })
 
-    module _ (x : Lesson) (same : x.news.items ≡ news) (f : Finds started mid named x.found) (left : IsNoneLeft started (kept_in old).lists)
+    module _ (x : Lesson) (same : x.news.items ≡ news) (f : FindsOfNews started mid named x.found) (left : IsNoneLeft started (kept_in old).lists)
         (over_is : AreOver mid.marks (mid.taken.components ++ x.found.components.items) x.over.items) where
       abbrev components : List (List TxnId)
       components = x.found.components.items

@@ -125,12 +125,12 @@ IsTried P (Some t) = P t
 -- ---- what is missing
 
 -- what an entry names is unknown, has no group here and was not asked for
-abbrev pub is_left : List StartedGroup → Lists → Dependency → Bool
-is_left started l d = not (is_known l.links d.from) && (not (is_here d.from started) && not (was_asked_for d.from l.waiting.asked))
+abbrev pub is_missing_at : List StartedGroup → (links : List KnownList) → (asked : List OpenFetch) → Dependency → Bool
+is_missing_at started links asked d = not (is_known links d.from) && (not (is_here d.from started) && not (was_asked_for d.from asked))
 
 -- nothing that is followed names such a one
 abbrev pub IsNoneLeft : List StartedGroup → Lists → Type 0
-IsNoneLeft started l = AllByRecursion (λ d. is_left started l d ≡ false) (all_entries l.links)
+IsNoneLeft started l = AllByRecursion (λ d. is_missing_at started l.links l.waiting.asked d ≡ false) (all_entries l.links)
 
 -- behind the step nothing more is left, whichever groups started
 abbrev pub LeavesNone : (old new : ListsNow) → Type 0

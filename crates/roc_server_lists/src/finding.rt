@@ -6,12 +6,12 @@ ghost use Rattle.roc_sequence.specs.Places.{IsListed};
 ghost use Rattle.roc_step.specs.Forgets.{over};
 ghost use Rattle.roc_step.specs.New.{AreNewTaken};
 ghost use Rattle.roc_server_lists.specs.ListsNow.{AreOver};
-ghost use Rattle.roc_server_lists.specs.Inner.Finding.{AreAlike, AreIdsSame, Finds};
+ghost use Rattle.roc_server_lists.specs.Inner.Finding.{AreAlike, AreIdsSame, FindsOfNews};
 ghost use Rattle.roc_server_lists.specs.Inner.Trials.{HasRoomToKeep};
 
 use crate::missing::missing_from;
 use crate::parts::ListParts;
-use crate::taken::{over_among, push_members};
+use crate::taken::{over_within, push_members};
 use crate::teaching::Named;
 use crate::trial::Found;
 use roc_base::{NoMemory, TxnId};
@@ -30,7 +30,7 @@ pub(crate) fn find_with_room(
     requires rising { IsStrictlySortedBy txn_cmp named.now.done.items }
     requires same { AreIdsSame parts.old.table }
     requires none_over { over parts.old.marks parts.old.taken.components ≡ [] }
-    ensures finds { IfOk result (λ p. Finds started.now.groups parts.old named.now p.0) }
+    ensures finds { IfOk result (λ p. FindsOfNews started.now.groups parts.old named.now p.0) }
     ensures over { IfOk result (λ p. AreOver parts.old.marks (parts.old.taken.components ++ p.0.components.items) p.1.items) }
     ensures room { IfOk result (λ p. HasRoomToKeep parts.new p.0) }
     ensures same { AreAlike parts.old parts.new }
@@ -50,7 +50,7 @@ fn find_all(
     requires rising { IsStrictlySortedBy txn_cmp named.now.done.items }
     requires same { AreIdsSame parts.old.table }
     requires none_over { over parts.old.marks parts.old.taken.components ≡ [] }
-    ensures finds { IfOk result (λ p. Finds started.now.groups parts.old named.now p.0) }
+    ensures finds { IfOk result (λ p. FindsOfNews started.now.groups parts.old named.now p.0) }
     ensures over { IfOk result (λ p. AreOver parts.old.marks (parts.old.taken.components ++ p.0.components.items) p.1.items) }
     ensures same { parts.new ≡ parts.old }
 {
@@ -58,7 +58,7 @@ fn find_all(
     let components = find_taken(&mut parts.table)?;
     let mut ids = Vec::new(alloc);
     push_members(&components, &mut ids)?;
-    let over = over_among(alloc, &parts.marks, &[], &components)?;
+    let over = over_within(alloc, &parts.marks, &components)?;
     Ok((
         Found {
             asks,

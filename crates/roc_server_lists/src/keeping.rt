@@ -1,5 +1,6 @@
 //! What was tried is kept, or taken back: neither takes memory.
-ghost use Rattle.std.specs.Prelude.{◌≡◌, ◌<◌, ◌≤◌, length, not, filter, if◌then◌else◌};
+ghost use Rattle.std.specs.Prelude.{◌≡◌, ◌≢◌, ◌<◌, ◌≤◌, [], length, not, filter, if◌then◌else◌};
+ghost use Rattle.std.specs.List.{AllByRecursion};
 ghost use Rattle.std.specs.List.Sorted.{IsStrictlySortedBy};
 ghost use Rattle.roc_base.specs.TxnId.{is_txn, txn_cmp};
 ghost use Rattle.roc_sequence.specs.Places.{is_listed, IsListed};
@@ -72,6 +73,7 @@ fn keep_lists(parts: &mut ListParts, lesson: Lesson)
 fn keep_found(parts: &mut ListParts, news: &[KnownList], found: Found)
     requires room { HasRoomToKeep parts.old found }
     requires decided { AreAllNew (IsListed is_txn parts.old.table.decided) parts.old.table.links found.ids.items }
+    requires some { AllByRecursion (λ c. c ≢ []) found.components.items }
     ensures { KeepsFound parts.old parts.new news.now found }
 {
     let Found {
@@ -81,7 +83,7 @@ fn keep_found(parts: &mut ListParts, news: &[KnownList], found: Found)
     } = found;
     wait_for(&mut parts.waits, news, &asks).unwrap();
     parts.table.decide(&ids);
-    parts.taken.add(components);
+    parts.taken.add(&parts.marks, components);
 }
 
 // The watermarks are heard, and what is over by them is forgotten.
@@ -92,7 +94,7 @@ fn keep_marks(parts: &mut ListParts, heard: Heard)
 {
     let Heard { marks, over } = heard;
     parts.marks = marks;
-    forget_if_over(parts, &over);
+    forget_ended(parts, &over);
 }
 
 // What was found of a settled transaction is kept, and what is over then is forgotten.
@@ -112,9 +114,9 @@ fn keep_settled(parts: &mut ListParts, settling: Settling)
     parts.marks = marks;
     settle_all(&mut parts.table, &settled);
     parts.table.decide(&ids);
-    parts.taken.add(components);
+    parts.taken.add(&parts.marks, components);
     drop_unless(&mut parts.waits, is_known, &settled);
-    forget_if_over(parts, &over);
+    forget_ended(parts, &over);
 }
 
 // The entries that name these are done from now on.
@@ -148,6 +150,19 @@ fn forget_if_over(parts: &mut ListParts, over: &[TxnId])
     ensures sound { AreConsistent parts.new }
 {
     if over.is_empty() {
+        return;
+    }
+    forget(parts, over);
+}
+
+// The same where watermarks rose: components that stand under what they ended, and are not over, stand elsewhere then.
+fn forget_ended(parts: &mut ListParts, over: &[TxnId])
+    requires { IsOverOf parts.old over.now }
+    ensures kept { kept_in parts.new ≡ lists_forgetting (kept_in parts.old) }
+    ensures sound { AreConsistent parts.new }
+{
+    if over.is_empty() {
+        parts.taken.forget(&parts.marks);
         return;
     }
     forget(parts, over);

@@ -5,10 +5,14 @@
 //! tries a step: a list is asked for, a watermark is heard, lists are taught, or a transaction is settled. Where there is no memory, it leaves what
 //! was kept. [`ServerLists::release`] then keeps the step, and [`ServerLists::rollback`] gives it up: neither takes memory. Behind each call it is
 //! known what is decided by what is kept, and what will be by what the step leaves (`AreSound`).
+//!
+//! Which components are over is found by coordinator and sequence, and none is looked at that has no ended transaction (`lent_components.rt`).
 #![tactic(auto)]
 
+mod components;
 mod finding;
 mod keeping;
+mod lent_components;
 mod marks;
 mod missing;
 mod parts;

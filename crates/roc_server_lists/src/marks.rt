@@ -1,5 +1,5 @@
 //! The watermarks of coordinators.
-ghost use Rattle.std.specs.Prelude.{◌≡◌};
+ghost use Rattle.std.specs.Prelude.{◌≡◌, length};
 ghost use Rattle.roc_step.specs.Below.{none_below, is_ended, mark_of, raised};
 
 use roc_base::TxnId;
@@ -39,6 +39,14 @@ impl Marks {
             below[at] = below[at].max(mark);
         }
         Marks { below }
+    }
+
+    // Of how many coordinators there are watermarks.
+    pub(crate) fn count(&self) -> u16
+        ensures { result ≡ length self.now }
+    {
+        let _ = &self.below;
+        self.below.len() as u16
     }
 
     // The watermark of a coordinator, 0 where none was heard.

@@ -5,7 +5,8 @@ ghost use Rattle.roc_base.specs.TxnId.{is_txn, txn_cmp};
 ghost use Rattle.roc_sequence.specs.Places.{is_listed};
 ghost use Rattle.roc_depgraph.specs.Deps.{is_known};
 ghost use Rattle.roc_step.specs.Waits.{was_asked_for};
-ghost use Rattle.roc_server_lists.specs.Inner.Finding.{asked_by, is_done_with, is_missing_at, AreIdsSame};
+ghost use Rattle.roc_server_lists.specs.ListsNow.{is_missing_at};
+ghost use Rattle.roc_server_lists.specs.Inner.Finding.{asked_by, is_done_with, AreIdsSame};
 
 use crate::marks::Marks;
 use crate::parts::ListParts;

@@ -83,6 +83,6 @@ pub(crate) fn prepare_heard(
     ensures left { IfOk result (λ h. (started : List Group) → IsNoneLeft started (kept_in parts.now).lists → IsNoneLeft (others h.over.items started) (after parts.now (MarksRise h)).lists) }
 {
     let marks = parts.marks.raised(coord, mark);
-    let over = over_among(alloc, &marks, parts.taken.as_slice(), &[])?;
+    let over = over_among(alloc, &marks, &parts.taken, &[])?;
     Ok(Heard { marks, over })
 }

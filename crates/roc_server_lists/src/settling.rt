@@ -32,7 +32,7 @@ pub(crate) fn find_settled(
     let components = find_taken_without(&mut parts.table, &settled)?;
     let mut ids = Vec::new(alloc);
     push_members(&components, &mut ids)?;
-    let over = over_among(alloc, &marks, parts.taken.as_slice(), &components)?;
+    let over = over_among(alloc, &marks, &parts.taken, &components)?;
     Ok(Settling {
         marks,
         settled,

@@ -1,29 +1,37 @@
 //! The components that were taken, and are not forgotten.
-ghost use Rattle.std.specs.Prelude.{◌≡◌, ◌≤◌, ◌-◌, ◌++◌, [], length, not, filter, vec_len, vec_capacity, IfOk, OnOk};
-ghost use Rattle.std.specs.List.{flat_map};
+ghost use Rattle.std.specs.Prelude.{◌≡◌, ◌≢◌, ◌+◌, ◌<◌, ◌≤◌, ◌++◌, [], length, not, filter, IfOk, OnOk};
+ghost use Rattle.std.specs.List.{flat_map, list_any, AllByRecursion};
+ghost use Rattle.roc_step.specs.Below.{is_ended};
 ghost use Rattle.roc_step.specs.Forgets.{is_over, over};
 ghost use Rattle.roc_server_lists.specs.ListsNow.{AreOver};
+ghost use Rattle.roc_server_lists.specs.Inner.Over.{AddsAll};
 
+use crate::components::{Component, add_all, forget_over, is_over};
+use crate::lent_components::{LentComponents, push_over};
 use crate::marks::Marks;
-use roc_base::{NoMemory, TxnId};
+use roc_base::{NoMemory, Steps, TxnId};
 use roc_component::rising;
 use roc_sequence::Sequence;
 use std::alloc::Global;
-use std::marker::Model;
+use std::marker::{Brand, Model};
+use std::sync::ledger::{Blank, Ledger};
 
-// The components, in the order in which they were taken, each in its order inside.
+// The components, in the order in which they were taken, each in its order inside. Those that may be over are found without a look at the others.
 #[derive(Drop)]
 pub(crate) struct Taken {
-    components: Vec<Sequence<TxnId>>,
+    components: Vec<Component>,
+    turn: u64,
 }
 
 impl Model for Taken {
-    ghost use Rattle.std.specs.Prelude.{◌-◌, vec_len, vec_capacity};
-    ghost use Rattle.roc_server_lists.specs.Inner.Over.{TakenComponents};
+    ghost use Rattle.std.specs.Prelude.{◌-◌, min, vec_len, vec_capacity};
+    ghost use Rattle.roc_server_lists.specs.Inner.Over.{members_by_turn, turns_left, AreBefore, AreStanding, TakenComponents};
 
     ghost Value = { TakenComponents };
 
-    ghost view = { λ t. record { components = t.components.items; spare = vec_capacity t.components - vec_len t.components } };
+    ghost view = { λ t. record { components = members_by_turn t.components.items; spare = min (vec_capacity t.components - vec_len t.components) (turns_left t.turn) } };
+
+    ghost invariant = { λ t. AreStanding t.components.items × AreBefore t.turn t.components.items };
 }
 
 impl Taken {
@@ -33,14 +41,8 @@ impl Taken {
     {
         Taken {
             components: Vec::new(alloc),
+            turn: 0,
         }
-    }
-
-    // The components.
-    pub(crate) fn as_slice(&self) -> &[Sequence<TxnId>]
-        ensures { result.now ≡ self.now.components }
-    {
-        self.components.as_slice()
     }
 
     // Takes memory ahead, so that this many more find room. What was taken stays, whether there is memory or not.
@@ -48,52 +50,46 @@ impl Taken {
         ensures components { self.new.components ≡ self.old.components }
         ensures ok { OnOk result (more ≤ self.new.spare) }
     {
+        if u64::MAX - self.turn < more as u64 {
+            return Err(NoMemory);
+        }
         self.components.reserve(more)?;
         Ok(())
     }
 
     // Takes more, where there is room.
-    pub(crate) fn add(&mut self, more: Vec<Sequence<TxnId>>)
-        requires { length more.items ≤ self.old.spare }
+    pub(crate) fn add(&mut self, marks: &Marks, more: Vec<Sequence<TxnId>>)
+        requires room { length more.items ≤ self.old.spare }
+        requires some { AllByRecursion (λ c. c ≢ []) more.items }
         ensures { self.new.components ≡ self.old.components ++ more.items }
     {
-        add_all(&mut self.components, more);
+        self.turn = add_all(&mut self.components, marks, self.turn, more);
     }
 
     // Forgets those that are over.
     pub(crate) fn forget(&mut self, marks: &Marks)
         ensures { self.new.components ≡ filter (λ c. not (is_over marks.now c)) self.old.components }
     {
-        keep_open(&mut self.components, marks);
+        forget_over(&mut self.components, marks);
     }
-}
 
-// Puts more behind those that are there, where there is room.
-fn add_all(components: &mut Vec<Sequence<TxnId>>, more: Vec<Sequence<TxnId>>)
-    requires { length more.items ≤ vec_capacity components.old - vec_len components.old }
-    ensures { components.new.items ≡ components.old.items ++ more.items }
-{
-    for component in more {
-        components.push(component).unwrap();
+    // Adds the transactions of those that are over, in any order. A step is one look at a component.
+    fn push_over<L: Ledger>(
+        &self,
+        marks: &Marks,
+        ids: &mut Vec<TxnId>,
+        steps: &mut Steps<L>,
+    ) -> Result<(), NoMemory>
+        ensures added { OnOk result (AddsAll (over marks.now self.now.components) ids.old.items ids.new.items) }
+        ensures steps { steps.new ≤ steps.old + length (filter (list_any (is_ended marks.now)) self.now.components) }
+    {
+        let lent = LentComponents::new(&self.components);
+        push_over(&lent, marks, ids, steps)
     }
-}
-
-// Those that are not over stay.
-fn keep_open(components: &mut Vec<Sequence<TxnId>>, marks: &Marks)
-    ensures { components.new.items ≡ filter (λ c. not (is_over marks.now c)) components.old.items }
-{
-    components.retain(|component| !is_over(marks, component.as_slice()));
-}
-
-// Whether all of a component are below the watermarks.
-fn is_over(marks: &Marks, component: &[TxnId]) -> bool
-    ensures { result ≡ is_over marks.now component.now }
-{
-    component.iter().all(|id| marks.is_ended(*id))
 }
 
 // Adds the transactions of those of the components that are over.
-pub(crate) fn push_over(
+fn push_those_over(
     marks: &Marks,
     components: &[Sequence<TxnId>],
     ids: &mut Vec<TxnId>,
@@ -109,17 +105,62 @@ pub(crate) fn push_over(
 }
 
 // The transactions of components that are over, by id.
+pub(crate) fn over_within(
+    alloc: Global,
+    marks: &Marks,
+    components: &[Sequence<TxnId>],
+) -> Result<Vec<TxnId>, NoMemory>
+    ensures { IfOk result (λ ids. AreOver marks.now components.now ids.items) }
+{
+    let mut ids = Vec::new(alloc);
+    push_those_over(marks, components, &mut ids)?;
+    rising(alloc, &ids)
+}
+
+// The same of those that were taken and of more.
 pub(crate) fn over_among(
     alloc: Global,
     marks: &Marks,
-    taken: &[Sequence<TxnId>],
+    taken: &Taken,
     more: &[Sequence<TxnId>],
 ) -> Result<Vec<TxnId>, NoMemory>
-    ensures { IfOk result (λ ids. AreOver marks.now (taken.now ++ more.now) ids.items) }
+    ensures { IfOk result (λ ids. AreOver marks.now (taken.now.components ++ more.now) ids.items) }
+{
+    let blank = Blank::new(1);
+    over_with::<Brand>(alloc, marks, taken, more, blank)
+}
+
+// The same where no steps are counted before.
+fn over_with<L: Ledger>(
+    alloc: Global,
+    marks: &Marks,
+    taken: &Taken,
+    more: &[Sequence<TxnId>],
+    blank: Blank,
+) -> Result<Vec<TxnId>, NoMemory>
+    requires name { blank.name ≡ L.name }
+    requires parts { blank.parts ≡ L.parts }
+    requires some { 0 < blank.parts }
+    ensures { IfOk result (λ ids. AreOver marks.now (taken.now.components ++ more.now) ids.items) }
+{
+    let mut steps = Steps::<L>::new(blank);
+    over_counted(alloc, marks, taken, more, &mut steps)
+}
+
+// The same with a step for each look at one that was taken: no more than have an ended transaction.
+fn over_counted<L: Ledger>(
+    alloc: Global,
+    marks: &Marks,
+    taken: &Taken,
+    more: &[Sequence<TxnId>],
+    steps: &mut Steps<L>,
+) -> Result<Vec<TxnId>, NoMemory>
+    ensures over { IfOk result (λ ids. AreOver marks.now (taken.now.components ++ more.now) ids.items) }
+    ensures steps { steps.new ≤ steps.old + length (filter (list_any (is_ended marks.now)) taken.now.components) }
 {
     let mut ids = Vec::new(alloc);
-    push_over(marks, taken, &mut ids)?;
-    push_over(marks, more, &mut ids)?;
+    taken.push_over(marks, &mut ids, steps)?;
+    push_those_over(marks, more, &mut ids)?;
     rising(alloc, &ids)
 }
 

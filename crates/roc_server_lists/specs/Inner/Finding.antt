@@ -10,7 +10,6 @@ use Rattle.roc_base.specs.TxnId.{is_txn, txn_cmp}
 use Rattle.roc_base.specs.Edge.{Dependency}
 use Rattle.roc_base.specs.Edges.{united}
 use Rattle.roc_depgraph.specs.declared.known.KnownList.{KnownList}
-use Rattle.roc_depgraph.specs.Deps.{is_known}
 use Rattle.roc_step.specs.declared.started.StartedGroup.{StartedGroup}
 use Rattle.roc_step.specs.declared.waits.OpenFetch.{OpenFetch}
 use Rattle.roc_step.specs.Asking.{asked_of}
@@ -18,11 +17,11 @@ use Rattle.roc_step.specs.Below.{is_ended}
 use Rattle.roc_step.specs.Links.{all_entries, least_naming, without_links}
 use Rattle.roc_step.specs.New.{AreNewTaken}
 use Rattle.roc_step.specs.State.{is_here}
-use Rattle.roc_step.specs.Waits.{was_asked_for}
 use Rattle.roc_server_table.specs.Kept.{TableLists}
 use Rattle.roc_server_lists.specs.declared.teaching.Named.{Named}
 use Rattle.roc_server_lists.specs.declared.parts.ListParts.{ListParts}
 use Rattle.roc_server_lists.specs.declared.trial.Found.{Found}
+use Rattle.roc_server_lists.specs.ListsNow.{is_missing_at}
 
 -- ---- what the definitions say of a state, by the parts of it that they look at
 
@@ -31,9 +30,6 @@ is_done_at shard started below known id = is_ended below id && (not (is_here id 
 
 abbrev pub links_at : Shard → List StartedGroup → ListParts → (news : List KnownList) → List KnownList
 links_at shard started k news = map (without_links (is_done_at shard started k.marks (k.table.known ++ news))) news
-
-abbrev pub is_missing_at : List StartedGroup → (links : List KnownList) → (asked : List OpenFetch) → Dependency → Bool
-is_missing_at started links asked d = not (is_known links d.from) && (not (is_here d.from started) && not (was_asked_for d.from asked))
 
 abbrev pub missing_at : List StartedGroup → (known links : List KnownList) → (asked : List OpenFetch) → List OpenFetch
 missing_at started known links asked = map (asked_of known) (filter (is_missing_at started links asked) (united (all_entries links)))
@@ -61,7 +57,7 @@ pub record Learns (shard : Shard) (started : List StartedGroup) (old new : ListP
   pub done : (d : Dependency) → Has d (all_entries news) → is_listed is_txn named.done.items d.from ≡ is_done_at shard started old.marks (old.table.known ++ news) d.from
 
 -- this is missing, and this is what is newly decided
-pub record Finds (started : List StartedGroup) (k : ListParts) (named : Named) (found : Found) : Type 0 where
+pub record FindsOfNews (started : List StartedGroup) (k : ListParts) (named : Named) (found : Found) : Type 0 where
   pub missing : found.asks.items
       ≡ map (asked_by k.marks k.table.known) (filter (λ d. not (is_listed is_txn named.done.items d.from) && is_missing_at started k.table.links k.waits.waiting.asked d) named.edges)
   pub chosen : AreNewTaken (IsListed is_txn k.table.decided) k.table.links found.components.items

@@ -9,7 +9,7 @@ use Rattle.roc_step.specs.Asking.{open_after, waiting_after}
 use Rattle.roc_server_lists.specs.declared.parts.ListParts.{ListParts}
 use Rattle.roc_server_lists.specs.declared.trial.Found.{Found}
 use Rattle.roc_server_lists.specs.ListsNow.{AreOver}
-use Rattle.roc_server_lists.specs.Inner.Parts.{kept_in, AreConsistent, AreRight}
+use Rattle.roc_server_lists.specs.Inner.Parts.{kept_in, AreConsistent, AreRightParts}
 use Rattle.roc_server_lists.specs.Inner.Trials.{lists_forgetting}
 
 -- what was found of these lists is kept
@@ -24,7 +24,7 @@ pub record KeepsFound (old new : ListParts) (news : List KnownList) (found : Fou
 
 -- all is right but that these are over
 pub record IsOverOf (k : ListParts) (ids : List TxnId) : Type 0 where
-  pub right : AreRight k
+  pub right : AreRightParts k
   pub over : AreOver k.marks k.taken.components ids
 
 -- they are forgotten

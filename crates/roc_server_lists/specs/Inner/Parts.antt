@@ -22,7 +22,7 @@ kept_in k =
 
 -- as decided exactly what is decided by what is followed, rising; as open exactly what was asked for and is not known; what is followed is of the known lists;
 -- and the components taken are of what is decided
-pub record AreRight (k : ListParts) : Type 0 where
+pub record AreRightParts (k : ListParts) : Type 0 where
   pub decided_rising : IsStrictlySortedBy txn_cmp k.table.decided
   pub decided_only : (t : TxnId) → IsListed is_txn k.table.decided t → IsDecided k.table.links t
   pub decided_all : (t : TxnId) → IsDecided k.table.links t → IsListed is_txn k.table.decided t
@@ -35,5 +35,5 @@ pub record AreRight (k : ListParts) : Type 0 where
 
 -- and none of the components is over
 pub record AreConsistent (k : ListParts) : Type 0 where
-  pub right : AreRight k
+  pub right : AreRightParts k
   pub none_over : over k.marks k.taken.components ≡ []

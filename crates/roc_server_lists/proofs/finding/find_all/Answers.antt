@@ -1,4 +1,4 @@
-use Rattle.std.proofs.Common.{List, ℕ, [], ◌≡◌, ◌++◌, ◌∙◌, ◌&&◌, not, map, filter, refl, ap, subst, sym}
+use Rattle.std.proofs.Common.{List, ℕ, [], ◌≡◌, ◌++◌, ◌∙◌, ◌&&◌, not, map, filter, ap, subst, sym}
 use Rattle.std.proofs.lemmas.List.Concat.{flat_map-append}
 use Rattle.std.proofs.lemmas.List.Elements.{filter-append}
 use Rattle.std.specs.List.{flat_map}
@@ -7,8 +7,8 @@ use Rattle.roc_base.specs.declared.id.TxnId.{TxnId}
 use Rattle.roc_base.specs.TxnId.{is_txn}
 use Rattle.roc_depgraph.specs.Closure.{IsRisingListOf}
 use Rattle.roc_step.specs.Forgets.{is_over, over}
-use Rattle.roc_server_lists.specs.ListsNow.{AreOver}
-use Rattle.roc_server_lists.specs.Inner.Finding.{asked_by, is_missing_at}
+use Rattle.roc_server_lists.specs.ListsNow.{is_missing_at, AreOver}
+use Rattle.roc_server_lists.specs.Inner.Finding.{asked_by}
 use Rattle.roc_server_lists.proofs.finding.find_all.Goals as goal
 
 -- all of the members were put behind none
@@ -16,16 +16,17 @@ listed_are : {none all : List TxnId} {components lent : List (List TxnId)} → n
 listed_are n e l = e ∙ (λ i. n i ++ flat_map (λ c. c) (l i))
 
 -- where none that was taken is over, what is over is so of those that come
-over_more : (marks : List ℕ) (taken none lent components : List (List TxnId)) (ids : List TxnId) → over marks taken ≡ [] → none ≡ [] → lent ≡ components → AreOver marks (none ++ lent) ids → AreOver marks (taken ++ components) ids
-over_more marks taken none lent components ids none_over nil is are =
+over_more : (marks : List ℕ) (taken lent components : List (List TxnId)) (ids : List TxnId) → over marks taken ≡ [] → lent ≡ components → AreOver marks lent ids
+    → AreOver marks (taken ++ components) ids
+over_more marks taken lent components ids none_over is are =
     let apart : over marks (taken ++ components) ≡ over marks taken ++ over marks components =
     ap (flat_map (λ c. c)) (filter-append (is_over marks) taken components) ∙ flat_map-append (λ c. c) (filter (is_over marks) taken) (filter (is_over marks) components) in
-    let same : over marks (none ++ lent) ≡ over marks (taken ++ components) = (λ i. over marks (nil i ++ is i)) ∙ sym (apart ∙ ap (λ ts. ts ++ over marks components) none_over) in
+    let same : over marks lent ≡ over marks (taken ++ components) = ap (over marks) is ∙ sym (apart ∙ ap (λ ts. ts ++ over marks components) none_over) in
     subst (λ ts. IsRisingListOf (IsListed is_txn ts) ids) same are
 
 pub returns-clause-over : goal.returns-clause-over
 returns-clause-over c =
-    over_more c.args.parts.now.marks c.args.parts.now.taken.components _ _ c.in_ok-components.components.items c.in_ok-over.over.items c.requires.none_over refl c.deref-3.ensures.value c.in_ok-over.ensures
+    over_more c.args.parts.now.marks c.args.parts.now.taken.components _ c.in_ok-components.components.items c.in_ok-over.over.items c.requires.none_over c.deref-3.ensures.value c.in_ok-over.ensures
 
 pub returns-clause-finds : goal.returns-clause-finds
 returns-clause-finds c =

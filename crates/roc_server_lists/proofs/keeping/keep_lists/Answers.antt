@@ -1,7 +1,8 @@
-use Rattle.std.proofs.Common.{List, ap, subst, sym, ◌∙◌}
+use Rattle.std.proofs.Common.{◌≢◌, [], List, ap, subst, sym, ◌∙◌}
 use Rattle.roc_base.specs.declared.id.TxnId.{TxnId}
 use Rattle.roc_base.specs.TxnId.{is_txn}
 use Rattle.roc_sequence.specs.Places.{IsListed}
+use Rattle.roc_sequence.proofs.Holds.{has_all}
 use Rattle.roc_step.specs.New.{AreAllNew}
 use Rattle.roc_server_lists.specs.Inner.Keeping.{IsOverOf, KeepsFound}
 use Rattle.roc_server_lists.specs.Inner.Trials.{lists_forgetting}
@@ -12,6 +13,9 @@ pub keep_found-requires-clause-decided : goal.keep_found-requires-clause-decided
 keep_found-requires-clause-decided c =
     let t = c.args.parts.now.table in
     subst (λ (ids : List TxnId). AreAllNew (IsListed is_txn t.decided) t.links ids) (sym c.requires.ids) c.requires.chosen.members
+
+pub keep_found-requires-clause-some : goal.keep_found-requires-clause-some
+keep_found-requires-clause-some c = has_all (λ m. m ≢ []) c.args.lesson.found.components.items c.requires.chosen.taken.some
 
 pub forget_if_over-requires : goal.forget_if_over-requires
 forget_if_over-requires c =

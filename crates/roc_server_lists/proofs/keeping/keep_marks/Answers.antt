@@ -1,5 +1,5 @@
 use Rattle.roc_server_lists.proofs.SettledSteps.{marks_heard}
 use Rattle.roc_server_lists.proofs.keeping.keep_marks.Goals as goal
 
-pub forget_if_over-requires : goal.forget_if_over-requires
-forget_if_over-requires c = marks_heard c.args.parts.now c.args.heard c.deref.result.now c.requires c.deref.ensures.value
+pub forget_ended-requires : goal.forget_ended-requires
+forget_ended-requires c = marks_heard c.args.parts.now c.args.heard c.deref.result.now c.requires c.deref.ensures.value

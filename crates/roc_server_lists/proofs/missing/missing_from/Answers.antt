@@ -5,7 +5,8 @@ use Rattle.roc_base.specs.TxnId.{is_txn}
 use Rattle.roc_base.specs.Edge.{Dependency}
 use Rattle.roc_step.specs.declared.waits.OpenFetch.{OpenFetch}
 use Rattle.roc_server_groups.proofs.Pairs.{passed_more, failed_more}
-use Rattle.roc_server_lists.specs.Inner.Finding.{asked_by, is_missing_at}
+use Rattle.roc_server_lists.specs.ListsNow.{is_missing_at}
+use Rattle.roc_server_lists.specs.Inner.Finding.{asked_by}
 use Rattle.roc_server_lists.proofs.missing.missing_from.Goals as goal
 use Rattle.roc_server_lists.proofs.missing.missing_from.Goals.{then-is_lacking+in_ok-push, else-is_lacking}
 

@@ -1,7 +1,8 @@
 use Rattle.std.proofs.Common.{◌≡◌, ◌&&◌, not, map, filter, take}
 use Rattle.roc_base.specs.TxnId.{is_txn}
 use Rattle.roc_sequence.specs.Places.{is_listed}
-use Rattle.roc_server_lists.specs.Inner.Finding.{asked_by, is_missing_at}
+use Rattle.roc_server_lists.specs.ListsNow.{is_missing_at}
+use Rattle.roc_server_lists.specs.Inner.Finding.{asked_by}
 use Rattle.roc_server_lists.proofs.missing.missing_from.Given as goal
 
 abbrev pub invariant-loop-edge : goal.invariant-loop-edge

@@ -23,8 +23,7 @@ returns-clause-found c =
           c.deref.ensures.value c.in_ok-components.ensures.taken;
       ids = c.in_ok-push_members.ensures ∙ (λ i. c.new-ids.ensures.items i ++ flat_map (λ x. x) (c.deref-2.ensures.value i));
       over =
-          subst (λ cs. AreOver c.raised-marks.result cs c.in_ok-over.over.items) (λ i. c.as_slice.ensures i ++ c.deref-3.ensures.value i)
-          c.in_ok-over.ensures;
+          subst (λ cs. AreOver c.raised-marks.result (k.taken.components ++ cs) c.in_ok-over.over.items) c.deref-3.ensures.value c.in_ok-over.ensures;
     }
 
 pub returns-clause-same : goal.returns-clause-same
