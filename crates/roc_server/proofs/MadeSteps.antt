@@ -1,9 +1,8 @@
 -- What was made ahead for a message, and what comes of it
-use Rattle.std.proofs.Common.{◌≡◌, ◌++◌, Bool, true, false, if◌then◌else◌, List, Vec, [], Option, Some, None, Result, Ok, Err, IsSome, IsTrue, IfSome, OnOk, OnErr, refl, sym, ap, subst, ◌∙◌, inl, inr}
+use Rattle.std.proofs.Common.{◌≡◌, ◌++◌, Bool, true, false, if◌then◌else◌, List, [], Option, Some, None, Result, Ok, Err, IsSome, IsTrue, IfSome, OnOk, OnErr, refl, sym, ap, subst, ◌∙◌, inl, inr}
 use Rattle.std.proofs.lemmas.Bool.{false≢true}
 use Rattle.std.proofs.lemmas.Option.{none-some}
 use Rattle.std.specs.Option.{option_map}
-use Rattle.std.specs.declared.alloc.Global.{Global}
 use Rattle.roc_base.specs.declared.node.Shard.{Shard}
 use Rattle.roc_msg.specs.declared.msg.Msg.{Msg}
 use Rattle.roc_msg.specs.declared.outbox.Ran.{Ran}
@@ -12,8 +11,8 @@ use Rattle.roc_plan.specs.Groups.{Plan}
 use Rattle.roc_server.specs.declared.ahead.Ahead.{Ahead}
 use Rattle.roc_server.specs.declared.ahead.Outcome.{Outcome}
 use Rattle.roc_step.specs.declared.handled.Handled.{Handled}
-use Rattle.roc_step.specs.declared.kept_read.KeptRead.{KeptRead}
 use Rattle.roc_server.specs.declared.parts.ServerParts.{ServerParts}
+use Rattle.roc_server_reads.specs.declared.views.StayingReads.{StayingReads}
 use Rattle.roc_server_reads.specs.declared.views.Views.{Views}
 use Rattle.roc_server.specs.Ahead.{needs_room, HasAllMade, HasRoom, IsMadeFor, ServingFits}
 use Rattle.roc_step.specs.Fits.{AreGroupsOf, AreReadsOf}
@@ -100,7 +99,7 @@ has_room shard k x None outbox msg (some, same) room = absurd (false≢true some
 has_room shard k x (Some a) outbox msg (some, same) room = record { made = made_ahead shard k x a; is = refl; of = same; room = room }
 
 -- the reads that stay, and those that stayed where a message was ignored
-pub then_fit : (plan : Plan) (v : Viewing) (answer : Handled) (ran : List Ran) (stays : Option (Vec KeptRead Global)) → AreReadsOf plan v.reads → AreReadsOf plan (reads_then v.reads stays) → AreReadsOf plan (viewing_then v answer ran stays).reads
+pub then_fit : (plan : Plan) (v : Viewing) (answer : Handled) (ran : List Ran) (stays : Option StayingReads) → AreReadsOf plan v.reads → AreReadsOf plan (reads_then v.reads stays) → AreReadsOf plan (viewing_then v answer ran stays).reads
 then_fit plan v answer ran stays before after = go (is_taken answer)
   where
     go : (b : Bool) → AreReadsOf plan (if b then record { versions = with_accesses v.versions ran; reads = reads_then v.reads stays } else v).reads

@@ -1,6 +1,5 @@
 -- What comes of a step for reads follows from what it leaves
-use Rattle.std.proofs.Common.{◌≡◌, not, List, [], Option, Vec, map, filter, if◌then◌else◌, sym, ap, subst, ◌∙◌}
-use Rattle.std.specs.declared.alloc.Global.{Global}
+use Rattle.std.proofs.Common.{◌≡◌, not, List, [], Option, map, filter, if◌then◌else◌, sym, ap, subst, ◌∙◌}
 use Rattle.roc_base.specs.declared.id.TxnId.{TxnId}
 use Rattle.roc_base.specs.declared.node.Shard.{Shard}
 use Rattle.roc_msg.specs.declared.msg.Msg.{Msg}
@@ -16,6 +15,7 @@ use Rattle.roc_step.specs.State.{ServerState, Viewing}
 use Rattle.roc_server.specs.declared.parts.ServerParts.{ServerParts}
 use Rattle.roc_server_reads.specs.Answering.{read_step_behind, AreReadsPlanned}
 use Rattle.roc_server_reads.specs.Behind.{is_free_behind, LeftBehind}
+use Rattle.roc_server_reads.specs.declared.views.StayingReads.{StayingReads}
 use Rattle.roc_server.specs.Inner.Answering.{left_behind, read_step, PlansReads}
 use Rattle.roc_server.specs.Inner.Parts.{state_behind, IsSound}
 use Rattle.roc_server.proofs.HeldUp.{held_behind}
@@ -40,7 +40,7 @@ module _ (plan : Plan) (shard : Shard) (k : ServerParts) (sound : IsSound k) whe
       }
       else record { viewing = v; sends = [] }
 
-  pub planned_so : (v : Viewing) (msg : Msg) (answer : Handled) (old new : Collected) (stays : Option (Vec KeptRead Global)) (left : LeftBehind) → left ≡ b
+  pub planned_so : (v : Viewing) (msg : Msg) (answer : Handled) (old new : Collected) (stays : Option StayingReads) (left : LeftBehind) → left ≡ b
       → AreReadsPlanned plan shard left v msg answer old new stays → PlansReads plan s v msg answer old new stays
   planned_so v msg answer old new stays left is planned = record {
     step = λ decided are.

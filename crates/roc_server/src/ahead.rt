@@ -1,6 +1,7 @@
 //! What a server made ahead for a message.
-use crate::{Handled, KeptRead};
+use crate::Handled;
 use roc_msg::{Msg, Outbox};
+use roc_server_reads::StayingReads;
 use std::rc::Rc;
 
 // What is answered, what is sent, and the reads that stay, where others stay than are kept. What is to change is tried in the server's parts.
@@ -8,7 +9,7 @@ use std::rc::Rc;
 pub(crate) struct Outcome {
     pub answer: Handled,
     pub sends: Outbox,
-    pub stays: Option<Vec<KeptRead>>,
+    pub stays: Option<StayingReads>,
 }
 
 // A message, and what comes of it. The message is one pointer, so that what holds it is cheap to prove.

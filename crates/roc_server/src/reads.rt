@@ -1,5 +1,5 @@
 //! Whether a read of a view is taken, and what comes of a step for reads.
-ghost use Rattle.std.specs.Prelude.{◌≡◌, ℕ, IfOk, OnOk, unwrap_or};
+ghost use Rattle.std.specs.Prelude.{◌≡◌, ◌<◌, ℕ, IfOk, OnOk, unwrap_or};
 ghost use Rattle.roc_step.specs.declared.handled.Handled.TheVariants.{Done};
 ghost use Rattle.roc_step.specs.Fits.{AreReadsOf};
 ghost use Rattle.roc_step.specs.Reads.{read_refusal};
@@ -10,14 +10,16 @@ ghost use Rattle.roc_server_reads.specs.Views.{reads_then, viewing_of, HasRoomTo
 ghost use Rattle.roc_server.specs.Inner.Answering.{PlansReads};
 ghost use Rattle.roc_server.specs.Inner.Parts.{state_behind, CanRelease, IsSound};
 
+use crate::Handled;
 use crate::parts::ServerParts;
-use crate::{Handled, KeptRead};
-use roc_base::{NoMemory, Nums, Shard, TxnId};
+use roc_base::{NoMemory, Nums, Shard, Steps, TxnId};
 use roc_msg::{Msg, Outbox};
 use roc_plan::Plan;
 use roc_server_lists::ServerLists;
-use roc_server_reads::{Behind, Views, plan_reads, read_refusal};
+use roc_server_reads::{Behind, StayingReads, Views, plan_reads, read_refusal};
 use std::alloc::Global;
+use std::marker::Brand;
+use std::sync::ledger::{Blank, Ledger};
 
 // What a read is answered: it is taken, comes too late, or is ignored for the first reason that holds. It changes nothing.
 pub(crate) fn judge_read(
@@ -49,7 +51,7 @@ pub(crate) fn answer_reads(
     msg: &Msg,
     answer: Handled,
     sends: &mut Outbox,
-) -> Result<Option<Vec<KeptRead>>, NoMemory>
+) -> Result<Option<StayingReads>, NoMemory>
     requires fits { AreReadsOf plan.now views.old.reads.items }
     requires taken { TakenFits plan.now msg.now answer }
     requires sound { IsSound parts.now }
@@ -60,7 +62,36 @@ pub(crate) fn answer_reads(
     ensures ran { OnOk result (sends.new.ran ≡ sends.old.ran) }
     ensures room { OnOk result (HasRoomToCount sends.new.ran views.new) }
 {
-    let behind = Behind::new(
+    let blank = Blank::new(1);
+    answer_by_ledger::<Brand>(alloc, plan, shard, parts, views, msg, answer, sends, blank)
+}
+
+// The same with a ledger. No steps are counted.
+fn answer_by_ledger<L: Ledger>(
+    alloc: Global,
+    plan: &Plan,
+    shard: Shard,
+    parts: &ServerParts,
+    views: &mut Views,
+    msg: &Msg,
+    answer: Handled,
+    sends: &mut Outbox,
+    blank: Blank,
+) -> Result<Option<StayingReads>, NoMemory>
+    requires name { blank.name ≡ L.name }
+    requires parts { blank.parts ≡ L.parts }
+    requires some { 0 < blank.parts }
+    requires fits { AreReadsOf plan.now views.old.reads.items }
+    requires taken { TakenFits plan.now msg.now answer }
+    requires sound { IsSound parts.now }
+    requires can { CanRelease parts.now }
+    ensures step { IfOk result (λ stays. PlansReads plan.now (state_behind shard parts.now) (viewing_of views.old) msg.now answer sends.old sends.new stays) }
+    ensures fits { IfOk result (λ stays. AreReadsOf plan.now (reads_then views.old.reads.items stays)) }
+    ensures same { viewing_of views.new ≡ viewing_of views.old }
+    ensures ran { OnOk result (sends.new.ran ≡ sends.old.ran) }
+    ensures room { OnOk result (HasRoomToCount sends.new.ran views.new) }
+{
+    let behind = Behind::<L>::new(
         &parts.rows,
         parts.groups.started(),
         parts.groups.index(),
@@ -68,5 +99,8 @@ pub(crate) fn answer_reads(
         parts.lists.newly(),
         parts.groups.starting(),
     );
-    plan_reads(alloc, plan, shard, &behind, views, msg, answer, sends)
+    let mut steps = Steps::<L>::new(blank);
+    plan_reads(
+        alloc, plan, shard, &behind, views, msg, answer, sends, &mut steps,
+    )
 }

@@ -1,7 +1,6 @@
 -- Which groups hold reads up is found cell by cell
-use Rattle.std.proofs.Common.{◌≡◌, Bool, true, false, cond, not, ◌&&◌, ◌||◌, if◌then◌else◌, List, [], ◌∷◌, ◌++◌, Some, refl, sym, ap, ◌∙◌}
+use Rattle.std.proofs.Common.{◌≡◌, Bool, true, false, cond, not, ◌&&◌, ◌||◌, if◌then◌else◌, List, [], ◌∷◌, Some, refl, sym, ap, ◌∙◌}
 use Rattle.std.proofs.lemmas.Bool.{false≢true}
-use Rattle.std.proofs.lemmas.List.Folds.{list_any-append}
 use Rattle.std.specs.List.{list_any}
 use Rattle.roc_sequence.specs.Places.{NoneTwice, is_listed}
 use Rattle.roc_sequence.proofs.Holds.{any_has, has_all, has_any, same_tests}
@@ -12,13 +11,12 @@ use Rattle.roc_rows.specs.Cells.{is_cell}
 use Rattle.roc_group.specs.declared.access.Access.{Access}
 use Rattle.roc_group.specs.Accesses.{do_write}
 use Rattle.roc_server_index.specs.declared.group_ref.GroupRef.{GroupRef}
-use Rattle.roc_server_index.specs.GroupRefs.{CellRefs, group_refs_at}
 use Rattle.roc_step.specs.declared.started.StartedGroup.{StartedGroup}
 use Rattle.roc_step.specs.Start.{uses_cell}
 use Rattle.roc_step.specs.State.{find_group}
 use Rattle.roc_server_reads.specs.Behind.{is_held_up, writes_one}
-use Rattle.roc_server_groups.specs.Indexed.{group_ref_of, group_refs_of, undecided_refs, IsIndexOf}
-use Rattle.roc_server_reads.specs.Inner.HoldsUp.{holds_at, writes_cell}
+use Rattle.roc_server_groups.specs.Indexed.{group_ref_of, group_refs_of, undecided_refs}
+use Rattle.roc_server_reads.specs.Inner.Holders.{holds_at, writes_cell}
 use Rattle.roc_server_groups.specs.Groups.{is_same_group}
 use Rattle.roc_server_groups.proofs.CellByCell.{AreFound}
 use Rattle.roc_server_groups.proofs.Stands.{group_found}
@@ -75,9 +73,8 @@ module _ (decided newly : List TxnId) where
             (ap (λ o. not (is_listed is_txn newly e.id) && writes_cell c o) h.0) ih
         go false u ih = ih ∙ unused (held es) (not (decided_now e.id)) (do_write e.cells c) (write_uses e c u)
 
-  held_is : (index : List (Cell × CellRefs)) (es : List StartedGroup) (c : Cell) → NoneTwice is_same_group es → IsIndexOf index decided es
-      → list_any (holds_at es newly c) (group_refs_at c index) ≡ held es c es
-  held_is index es c once h = ap (list_any (holds_at es newly c)) (h c) ∙ held_from es c es (has_all (λ e. find_group e.id e.group es ≡ Some e) es (λ e k. group_found es e once k))
+  held_is : (es : List StartedGroup) (c : Cell) → NoneTwice is_same_group es → list_any (holds_at es newly c) (undecided_refs decided (group_refs_of c es)) ≡ held es c es
+  held_is es c once = held_from es c es (has_all (λ e. find_group e.id e.group es ≡ Some e) es (λ e k. group_found es e once k))
 
   -- ---- over all cells
 
@@ -109,23 +106,11 @@ module _ (decided newly : List TxnId) where
       (has_any (λ (e : StartedGroup). not (decided_now e.id) && do_write e.cells a.0.cell) es e.0 e.1
       (both_hold (not (decided_now e.0.id)) (do_write e.0.cells a.0.cell) (left_of_both (not (decided_now e.0.id)) (writes_one uses e.0) e.2) a.2)))
 
-  each_held : (index : List (Cell × CellRefs)) (es : List StartedGroup) (uses : List Access) → NoneTwice is_same_group es → IsIndexOf index decided es
-      → list_any (λ (a : Access). list_any (holds_at es newly a.cell) (group_refs_at a.cell index)) uses ≡ list_any (λ (a : Access). held es a.cell es) uses
-  each_held index es [] once h = refl
-  each_held index es (a ∷ more) once h = λ i. held_is index es a.cell once h i || each_held index es more once h i
+  each_held : (es : List StartedGroup) (uses : List Access) → NoneTwice is_same_group es
+      → list_any (λ (a : Access). list_any (holds_at es newly a.cell) (undecided_refs decided (group_refs_of a.cell es))) uses ≡ list_any (λ (a : Access). held es a.cell es) uses
+  each_held es [] once = refl
+  each_held es (a ∷ more) once = λ i. held_is es a.cell once i || each_held es more once i
 
-  pub held_by_cell : (index : List (Cell × CellRefs)) (es : List StartedGroup) (uses : List Access) → NoneTwice is_same_group es → IsIndexOf index decided es
-      → list_any (λ (a : Access). list_any (holds_at es newly a.cell) (group_refs_at a.cell index)) uses ≡ is_held_up decided_now uses es
-  held_by_cell index es uses once h = each_held index es uses once h ∙ turned uses es
-
--- ---- those that are here, and those that start
-
-module _ (decided : TxnId → Bool) (uses : List Access) (es fs : List StartedGroup) where
-  held_with : (is_held_up decided uses es || is_held_up decided uses fs) ≡ is_held_up decided uses (es ++ fs)
-  held_with = sym (list_any-append (λ x. not (decided x.id) && writes_one uses x) es fs)
-
-  pub held_first : is_held_up decided uses es ≡ true → true ≡ is_held_up decided uses (es ++ fs)
-  held_first h = ap (λ b. b || is_held_up decided uses fs) (sym h) ∙ held_with
-
-  pub held_else : (held : Bool) → is_held_up decided uses es ≡ false → held ≡ is_held_up decided uses fs → held ≡ is_held_up decided uses (es ++ fs)
-  held_else held h is = is ∙ ap (λ b. b || is_held_up decided uses fs) (sym h) ∙ held_with
+  pub held_by_cell : (es : List StartedGroup) (uses : List Access) → NoneTwice is_same_group es
+      → list_any (λ (a : Access). list_any (holds_at es newly a.cell) (undecided_refs decided (group_refs_of a.cell es))) uses ≡ is_held_up decided_now uses es
+  held_by_cell es uses once = each_held es uses once ∙ turned uses es

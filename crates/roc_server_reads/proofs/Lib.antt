@@ -1,4 +1,6 @@
 mod HeldByCell
+mod Holding
+mod Parting
 mod ReadSteps
 mod CountedWrites
 mod ReadTurns

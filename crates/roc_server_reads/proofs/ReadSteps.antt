@@ -1,8 +1,5 @@
 -- What comes of a step for reads
-use Rattle.std.proofs.Common.{◌≡◌, ◌<◌, ◌+◌, ◌∷◌, ◌++◌, ℕ, Bool, true, false, not, cond, List, [], length}
-use Rattle.std.proofs.Common.{take, get_or, Option, None, Vec, map, filter, if◌then◌else◌, refl, sym, ap, subst, ◌∙◌, append-nil}
-use Rattle.std.proofs.lemmas.List.Elements.{filter_more}
-use Rattle.std.specs.declared.alloc.Global.{Global}
+use Rattle.std.proofs.Common.{◌≡◌, ◌∷◌, Bool, true, false, not, cond, List, [], Option, None, map, filter, if◌then◌else◌, refl, sym, ap, subst, ◌∙◌, append-nil}
 use Rattle.roc_base.specs.declared.node.Shard.{Shard}
 use Rattle.roc_msg.specs.declared.msg.Msg.{Msg}
 use Rattle.roc_msg.specs.Outbox.{Collected, HasSent}
@@ -14,14 +11,8 @@ use Rattle.roc_step.specs.Reads.{in_turn, is_taken, reads_with, with_accesses, R
 use Rattle.roc_step.specs.State.{Viewing}
 use Rattle.roc_server_reads.specs.Answering.{answering_free, readok_over, AreReadsPlanned}
 use Rattle.roc_server_reads.specs.Behind.{is_free_behind, LeftBehind}
+use Rattle.roc_server_reads.specs.declared.views.StayingReads.{StayingReads}
 use Rattle.roc_server_reads.specs.Views.{reads_then}
-
--- of reads none is free, and one more is not
-pub one_more_held : (free : KeptRead → Bool) (reads : List KeptRead) (i : ℕ) (q : KeptRead) → i < length reads → q ≡ get_or reads i q
-    → filter free (take i reads) ≡ [] → free q ≡ false → filter free (take (i + 1) reads) ≡ []
-one_more_held free reads i q within is none held =
-    let here : free (get_or reads i q) ≡ false = ap free (sym is) ∙ held in
-    filter_more free reads i q within ∙ (λ j. none j ++ cond (here j) (get_or reads i q ∷ []) [])
 
 -- where none is free, all are those that are not
 none_free : (free : KeptRead → Bool) (reads : List KeptRead) → filter free reads ≡ [] → filter (λ q. not (free q)) reads ≡ reads
@@ -47,7 +38,7 @@ module _ (plan : Plan) (shard : Shard) (b : LeftBehind) (v : Viewing) (msg : Msg
         sent = subst (λ (t : Bool). HasSent out out (if t then whole else unmoved).sends) (sym e) (sym (append-nil out.messages), refl, refl);
       }
 
-  module _ (old new : Collected) (stays : Option (Vec KeptRead Global)) (all : List KeptRead) (all_is : reads_with msg answer v.reads ≡ all)
+  module _ (old new : Collected) (stays : Option StayingReads) (all : List KeptRead) (all_is : reads_with msg answer v.reads ≡ all)
       (stays_are : reads_then v.reads stays ≡ filter (λ q. not (is_free_behind plan b q)) all)
       (sent : HasSent old new (map (readok_over plan shard b.store (with_accesses v.versions old.ran)) (in_turn (filter (is_free_behind plan b) all)))) (taken : is_taken answer ≡ true) where
     abbrev counts : Counts

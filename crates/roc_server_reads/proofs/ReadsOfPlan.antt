@@ -1,5 +1,5 @@
 -- Reads of the plan stay so
-use Rattle.std.proofs.Common.{◌++◌, ◌∷◌, [], Bool, true, false, cond, if◌then◌else◌, List, filter}
+use Rattle.std.proofs.Common.{◌≡◌, ◌++◌, ◌∷◌, [], Bool, true, false, cond, if◌then◌else◌, List, Some, None, filter, refl, sym, append-nil}
 use Rattle.std.specs.List.{AllByRecursion, list_any}
 use Rattle.roc_sequence.proofs.Holds.{all_append}
 use Rattle.roc_msg.specs.declared.msg.Msg.{Msg}
@@ -10,7 +10,8 @@ use Rattle.roc_step.specs.declared.handled.Handled.TheVariants.{Done, Gone, Igno
 use Rattle.roc_step.specs.declared.kept_read.KeptRead.{KeptRead}
 use Rattle.roc_step.specs.Fits.{AreReadsOf, IsReadOf}
 use Rattle.roc_step.specs.Reads.{in_turn, is_read_before, is_same_read, put_read, reads_with, with_read}
-use Rattle.roc_server_reads.specs.Answering.{TakenFits}
+use Rattle.roc_server_reads.specs.Answering.{read_in, TakenFits}
+use Rattle.roc_server_reads.specs.Inner.Parts.{one_more, unless_kept}
 
 module _ (P : KeptRead → Type 0) where
   pub some_hold : (test : KeptRead → Bool) (qs : List KeptRead) → AllByRecursion P qs → AllByRecursion P (filter test qs)
@@ -46,3 +47,17 @@ with_fits plan (Read id round proc group args) Done reads one all = one_more_fit
 with_fits plan (Read id round proc group args) Gone reads one all = all
 with_fits plan (Read id round proc group args) (Ignored reason) reads one all = all
 with_fits plan msg answer reads one all = all
+
+-- it is put behind those that are kept, unless it is one of these
+pub reads_are : (msg : Msg) (answer : Handled) (reads : List KeptRead) → reads_with msg answer reads ≡ reads ++ one_more (unless_kept reads (read_in msg answer))
+reads_are (Read id round proc group args) Done reads = go (list_any (is_same_read q) reads)
+  where
+    q : KeptRead
+    q = record { id = id; round = round; proc = proc; group = group; args = args }
+
+    go : (b : Bool) → (if b then reads else reads ++ q ∷ []) ≡ reads ++ one_more (if b then None else Some q)
+    go true = sym (append-nil reads)
+    go false = refl
+reads_are (Read id round proc group args) Gone reads = sym (append-nil reads)
+reads_are (Read id round proc group args) (Ignored reason) reads = sym (append-nil reads)
+reads_are msg answer reads = sym (append-nil reads)

@@ -1,6 +1,5 @@
 -- What comes of a step for reads, by what it leaves
-use Rattle.std.specs.Prelude.{◌≡◌, ⊤, not, List, [], Option, Vec, map, filter, if◌then◌else◌}
-use Rattle.std.specs.declared.alloc.Global.{Global}
+use Rattle.std.specs.Prelude.{◌≡◌, ⊤, not, List, [], Option, Some, None, map, filter, if◌then◌else◌}
 use Rattle.roc_base.specs.declared.node.Node.TheVariants.{Coord}
 use Rattle.roc_base.specs.declared.node.Shard.{Shard}
 use Rattle.roc_msg.specs.declared.msg.Msg.{Msg}
@@ -19,7 +18,13 @@ use Rattle.roc_step.specs.Fits.{IsReadOf}
 use Rattle.roc_step.specs.Reads.{in_turn, is_taken, read_call, reads_with, with_accesses, ReadStep}
 use Rattle.roc_step.specs.State.{Viewing}
 use Rattle.roc_server_reads.specs.Behind.{is_free_behind, LeftBehind}
+use Rattle.roc_server_reads.specs.declared.views.StayingReads.{StayingReads}
 use Rattle.roc_server_reads.specs.Views.{viewing_then}
+
+-- the read of a message that was taken
+abbrev pub read_in : Msg → Handled → Option KeptRead
+read_in (Read id round proc group args) Done = Some (record { id = id; round = round; proc = proc; group = group; args = args })
+read_in msg answer = None
 
 -- a read that was taken is of the plan
 abbrev pub TakenFits : Plan → Msg → Handled → Type 0
@@ -48,6 +53,6 @@ read_step_behind plan shard b v msg answer ran =
     if is_taken answer then answering_free plan shard b (with_accesses v.versions ran) (reads_with msg answer v.reads) else record { viewing = v; sends = [] }
 
 -- it is planned: these reads stay, and the rest is sent
-pub record AreReadsPlanned (plan : Plan) (shard : Shard) (b : LeftBehind) (v : Viewing) (msg : Msg) (answer : Handled) (old new : Collected) (stays : Option (Vec KeptRead Global)) : Type 0 where
+pub record AreReadsPlanned (plan : Plan) (shard : Shard) (b : LeftBehind) (v : Viewing) (msg : Msg) (answer : Handled) (old new : Collected) (stays : Option StayingReads) : Type 0 where
   pub viewing : (read_step_behind plan shard b v msg answer old.ran).viewing ≡ viewing_then v answer old.ran stays
   pub sent : HasSent old new (read_step_behind plan shard b v msg answer old.ran).sends

@@ -1,4 +1,5 @@
 pub mod Views
 pub mod Behind
+pub mod Looks
 pub mod Answering
 pub mod Inner

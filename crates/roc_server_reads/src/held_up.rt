@@ -1,105 +1,161 @@
-//! Whether a group holds reads up.
-ghost use Rattle.std.specs.Prelude.{◌≡◌, ◌&&◌, ◌||◌, ◌++◌, not};
-ghost use Rattle.std.specs.List.{list_any};
-ghost use Rattle.roc_base.specs.TxnId.{is_txn};
+//! Which group holds a read up.
+ghost use Rattle.std.specs.Prelude.{◌≡◌, ◌≤◌, ◌+◌, ◌&&◌, not, length};
 ghost use Rattle.roc_group.specs.Accesses.{do_write};
-ghost use Rattle.roc_sequence.specs.Places.{NoneTwice, is_listed};
-ghost use Rattle.roc_server_groups.specs.Groups.{is_same_group};
-ghost use Rattle.roc_server_groups.specs.Indexed.{IsIndexOf};
-ghost use Rattle.roc_server_index.specs.GroupRefs.{group_refs_at};
-ghost use Rattle.roc_server_reads.specs.Behind.{is_held_up, writes_one};
-ghost use Rattle.roc_server_reads.specs.Inner.HoldsUp.{holds_at};
+ghost use Rattle.roc_server_groups.specs.Indexed.{group_refs_of, undecided_refs};
+ghost use Rattle.roc_server_reads.specs.Behind.{decided_behind, writes_one, IsHolder};
+ghost use Rattle.roc_server_reads.specs.Inner.Holders.{count_of_hint, holds_at, is_hint_right, IsFoundAt, IsStartedHolder, IsStartingHolder};
+ghost use Rattle.roc_server_reads.specs.Looks.{is_held_by, looks_over, refs_over};
 
-use roc_base::{TxnId, is_among};
+use crate::behind::Behind;
+use roc_base::Steps;
 use roc_group::Access;
 use roc_rows::Cell;
-use roc_server_groups::{StartedGroups, find_group};
-use roc_server_index::{GroupRef, Index};
-use roc_server_table::ListTable;
+use roc_server_index::GroupRef;
 use roc_step::StartedGroup;
+use std::sync::ledger::Ledger;
 
-// Whether a group that is not decided, neither before a step nor newly, writes one of these cells: one that started, or one that starts.
-pub(crate) fn is_held_up(
-    started: &StartedGroups,
-    index: &Index,
-    table: &ListTable,
-    newly: &[TxnId],
-    starting: &[StartedGroup],
+// A group that is not decided, neither before a step nor newly, and writes one of these cells: that of the hint, where it does, else one that started, or
+// one that starts. Of the hint nothing is known.
+pub(crate) fn holder_among<L: Ledger>(
+    behind: &Behind<'_, L>,
     uses: &[Access],
+    hint: Option<GroupRef>,
+    steps: &mut Steps<L>,
+) -> Option<GroupRef>
+    ensures holder { IsHolder behind.now uses.now result }
+    ensures steps { steps.new ≤ steps.old + looks_over behind.now uses.now hint }
+{
+    if is_hint_right(behind, uses, hint, steps) {
+        return hint;
+    }
+    match started_holder(behind, uses, steps) {
+        Some(group_ref) => Some(group_ref),
+        None => starting_holder(behind, uses, steps),
+    }
+}
+
+// Whether there is a hint, and its group does.
+fn is_hint_right<L: Ledger>(
+    behind: &Behind<'_, L>,
+    uses: &[Access],
+    hint: Option<GroupRef>,
+    steps: &mut Steps<L>,
 ) -> bool
-    requires once { NoneTwice is_same_group started.now.groups }
-    requires refs { IsIndexOf index.now table.now.decided started.now.groups }
-    ensures { result ≡ is_held_up (λ t. is_listed is_txn table.now.decided t || is_listed is_txn newly.now t) uses.now (started.now.groups ++ starting.now) }
+    ensures is { result ≡ is_hint_right behind.now uses.now hint }
+    ensures steps { steps.new ≤ steps.old + count_of_hint hint }
 {
-    if started_against(started, index, newly, uses) {
-        return true;
-    }
-    starts_against(table, newly, starting, uses)
-}
-
-// Whether one that started writes one of these cells: the index leads to those that were not decided before.
-fn started_against(started: &StartedGroups, index: &Index, newly: &[TxnId], uses: &[Access]) -> bool
-    ensures { result ≡ list_any (λ a. list_any (holds_at started.now.groups newly.now a.cell) (group_refs_at a.cell index.now)) uses.now }
-{
-    uses.iter()
-        .any(|access| holds_cell(started, index, newly, access.cell))
-}
-
-// Whether one of the groups that the index has at a cell holds reads of it up.
-fn holds_cell(started: &StartedGroups, index: &Index, newly: &[TxnId], cell: Cell) -> bool
-    ensures { result ≡ list_any (holds_at started.now.groups newly.now cell) (group_refs_at cell index.now) }
-{
-    let group_refs = index.at(cell);
-    group_refs
-        .iter()
-        .any(|group_ref| holds_at(started, newly, *group_ref, cell))
-}
-
-// Whether the group of a reference is not newly decided and writes the cell.
-fn holds_at(started: &StartedGroups, newly: &[TxnId], group_ref: GroupRef, cell: Cell) -> bool
-    ensures { result ≡ holds_at started.now.groups newly.now cell group_ref }
-{
-    if is_among(newly, group_ref.id) {
-        return false;
-    }
-    match find_group(started, group_ref.id, group_ref.group) {
-        Some(group) => does_write(group.cells.as_slice(), cell),
+    match hint {
+        Some(group_ref) => is_held_by(behind, uses, group_ref, steps),
         None => false,
     }
 }
 
-// Whether one of the groups that start writes one of these cells.
-fn starts_against(
-    table: &ListTable,
-    newly: &[TxnId],
-    starting: &[StartedGroup],
+// Whether the group of a reference had started, is not decided, and writes one of these cells.
+fn is_held_by<L: Ledger>(
+    behind: &Behind<'_, L>,
     uses: &[Access],
+    group_ref: GroupRef,
+    steps: &mut Steps<L>,
 ) -> bool
-    ensures { result ≡ is_held_up (λ t. is_listed is_txn table.now.decided t || is_listed is_txn newly.now t) uses.now starting.now }
+    ensures is { result ≡ is_held_by behind.now uses.now group_ref }
+    ensures steps { steps.new ≤ steps.old + 1 }
 {
-    starting
-        .iter()
-        .any(|group| holds_up(table, newly, group, uses))
+    if behind.is_decided(group_ref.id) {
+        return false;
+    }
+    match behind.look(group_ref, steps) {
+        Some(group) => writes_one(group, uses),
+        None => false,
+    }
+}
+
+// One that started and writes one of these cells: the index leads to those that were not decided before.
+fn started_holder<L: Ledger>(
+    behind: &Behind<'_, L>,
+    uses: &[Access],
+    steps: &mut Steps<L>,
+) -> Option<GroupRef>
+    ensures holder { IsStartedHolder behind.now uses.now result }
+    ensures steps { steps.new ≤ steps.old + refs_over behind.now uses.now }
+{
+    behind.has_each_once();
+    for access in uses {
+        let holder = holder_at(behind, access, steps);
+        if let Some(group_ref) = holder {
+            return Some(group_ref);
+        }
+    }
+    None
+}
+
+// One of the groups that the index has at the cell of a use, which holds reads of it up.
+fn holder_at<L: Ledger>(
+    behind: &Behind<'_, L>,
+    access: &Access,
+    steps: &mut Steps<L>,
+) -> Option<GroupRef>
+    ensures holder { IsFoundAt behind.now access.now.cell result }
+    ensures steps { steps.new ≤ steps.old + length (undecided_refs behind.now.decided (group_refs_of access.now.cell behind.now.started)) }
+{
+    let group_refs = behind.refs_at(access.cell);
+    for group_ref in group_refs {
+        if holds_at(behind, group_ref, access, steps) {
+            return Some(*group_ref);
+        }
+    }
+    None
+}
+
+// Whether the group of a reference is not newly decided and writes the cell of a use.
+fn holds_at<L: Ledger>(
+    behind: &Behind<'_, L>,
+    group_ref: &GroupRef,
+    access: &Access,
+    steps: &mut Steps<L>,
+) -> bool
+    ensures holds { result ≡ holds_at behind.now.started behind.now.newly access.now.cell group_ref.now }
+    ensures steps { steps.new ≤ steps.old + 1 }
+{
+    if behind.is_newly_decided(group_ref.id) {
+        return false;
+    }
+    match behind.look(*group_ref, steps) {
+        Some(group) => does_write(group.cells.as_slice(), access.cell),
+        None => false,
+    }
+}
+
+// One that starts and writes one of these cells.
+fn starting_holder<L: Ledger>(
+    behind: &Behind<'_, L>,
+    uses: &[Access],
+    steps: &mut Steps<L>,
+) -> Option<GroupRef>
+    ensures holder { IsStartingHolder behind.now uses.now result }
+    ensures steps { steps.new ≤ steps.old + length behind.now.starting }
+{
+    let starts = behind.starts();
+    for at in 0..starts {
+        let group = behind.look_at_start(at, steps);
+        if holds_up(behind, group, uses) {
+            return Some(GroupRef {
+                id: group.id,
+                proc: group.proc,
+                group: group.group,
+            });
+        }
+    }
+    None
 }
 
 // Whether a group is not decided, neither before nor newly, and writes one of these cells.
-fn holds_up(table: &ListTable, newly: &[TxnId], group: &StartedGroup, uses: &[Access]) -> bool
-    ensures { result ≡ (not (is_listed is_txn table.now.decided group.now.id || is_listed is_txn newly.now group.now.id) && writes_one uses.now group.now) }
+fn holds_up<L: Ledger>(behind: &Behind<'_, L>, group: &StartedGroup, uses: &[Access]) -> bool
+    ensures { result ≡ (not (decided_behind behind.now group.now.id) && writes_one uses.now group.now) }
 {
-    if is_decided(table, newly, group.id) {
+    if behind.is_decided(group.id) {
         return false;
     }
     writes_one(group, uses)
-}
-
-// Whether a transaction was decided before, or newly is.
-fn is_decided(table: &ListTable, newly: &[TxnId], id: TxnId) -> bool
-    ensures { result ≡ (is_listed is_txn table.now.decided id || is_listed is_txn newly.now id) }
-{
-    if table.is_decided(id) {
-        return true;
-    }
-    is_among(newly, id)
 }
 
 // Whether a group writes one of these cells.

@@ -1,18 +1,17 @@
 //! The reads that are kept.
-ghost use Rattle.std.specs.Prelude.{◌≡◌, ◌++◌, ◌∷◌, [], List, IfOk, OnOk};
+ghost use Rattle.std.specs.Prelude.{◌≡◌, IfOk};
 ghost use Rattle.std.specs.List.{list_any};
-ghost use Rattle.roc_server_reads.specs.Inner.Parts.{with_some_read};
-ghost use Rattle.roc_step.specs.Reads.{is_same_read, reads_with, with_read};
-ghost use Rattle.roc_step.specs.declared.kept_read.KeptRead.{KeptRead as Waiting};
+ghost use Rattle.roc_server_reads.specs.Answering.{read_in};
+ghost use Rattle.roc_server_reads.specs.Inner.Parts.{unless_kept};
+ghost use Rattle.roc_step.specs.Reads.{is_same_read};
 
 use roc_base::NoMemory;
 use roc_msg::Msg;
 use roc_step::{Handled, KeptRead};
-use std::alloc::Global;
 
 // The read of a message that was taken.
 pub(crate) fn read_of(msg: &Msg, answer: Handled) -> Result<Option<KeptRead>, NoMemory>
-    ensures { IfOk result (λ read. (reads : List Waiting) → reads_with msg.now answer reads ≡ with_some_read read reads) }
+    ensures { IfOk result (λ read. read ≡ read_in msg.now answer) }
 {
     match (msg, answer) {
         (
@@ -35,31 +34,19 @@ pub(crate) fn read_of(msg: &Msg, answer: Handled) -> Result<Option<KeptRead>, No
     }
 }
 
-// Reads with one more, where there is one. One that is kept is not kept twice.
-pub(crate) fn with_read(
-    alloc: Global,
-    reads: &[KeptRead],
-    read: Option<KeptRead>,
-) -> Result<Vec<KeptRead>, NoMemory>
-    ensures { IfOk result (λ all. all.items ≡ with_some_read read reads.now) }
+// A read that comes, unless it is kept.
+pub(crate) fn unless_kept(reads: &[KeptRead], read: Option<KeptRead>) -> Option<KeptRead>
+    ensures { result ≡ unless_kept reads.now read }
 {
-    let mut all = copies(alloc, reads)?;
     match read {
-        Some(read) => add_read(&mut all, read)?,
-        None => {}
+        Some(read) => {
+            if is_kept(reads, &read) {
+                return None;
+            }
+            Some(read)
+        }
+        None => None,
     }
-    Ok(all)
-}
-
-// Adds a read, unless it is kept.
-fn add_read(reads: &mut Vec<KeptRead>, read: KeptRead) -> Result<(), NoMemory>
-    ensures { OnOk result (reads.new.items ≡ with_read read reads.old.items) }
-{
-    if is_kept(reads.as_slice(), &read) {
-        return Ok(());
-    }
-    reads.push(read)?;
-    Ok(())
 }
 
 // Whether a read is one of these.
@@ -80,27 +67,15 @@ fn is_same(read: &KeptRead, other: &KeptRead) -> bool
         && read.args == other.args
 }
 
-// Copies of reads.
-fn copies(alloc: Global, reads: &[KeptRead]) -> Result<Vec<KeptRead>, NoMemory>
-    ensures { IfOk result (λ copies. copies.items ≡ reads.now) }
+// A copy of a read.
+pub(crate) fn copy_of_read(read: &KeptRead) -> Result<KeptRead, NoMemory>
+    ensures { IfOk result (λ copy. copy ≡ read.now) }
 {
-    let mut copies = Vec::new(alloc);
-    for read in reads {
-        push_copy(&mut copies, read)?;
-    }
-    Ok(copies)
-}
-
-// Adds a copy of a read.
-fn push_copy(copies: &mut Vec<KeptRead>, read: &KeptRead) -> Result<(), NoMemory>
-    ensures { OnOk result (copies.new.items ≡ copies.old.items ++ read.now ∷ []) }
-{
-    copies.push(KeptRead {
+    Ok(KeptRead {
         id: read.id,
         round: read.round,
         proc: read.proc,
         group: read.group,
         args: read.args.clone()?,
-    })?;
-    Ok(())
+    })
 }

@@ -1,12 +1,13 @@
 //! What a server keeps for views.
-ghost use Rattle.std.specs.Prelude.{◌≡◌, ◌≤◌, ◌+◌, ◌∷◌, [], length, filter, OnOk};
-ghost use Rattle.roc_server_reads.specs.Views.{reads_then, viewing_of, viewing_then, HasRoomToCount};
+ghost use Rattle.std.specs.Prelude.{◌≡◌, ◌≤◌, ◌+◌, ◌∷◌, [], length, filter, IsTrue, OnOk};
+ghost use Rattle.roc_server_reads.specs.Views.{holders_then, reads_then, viewing_of, viewing_then, HasRoomToCount};
 ghost use Rattle.roc_step.specs.Reads.{is_taken, with_access, with_accesses};
 ghost use Rattle.roc_step.specs.Restarts.{without_reads};
 
 use roc_base::NoMemory;
 use roc_msg::Ran;
 use roc_rows::Versions;
+use roc_server_index::GroupRef;
 use roc_step::{Handled, KeptRead};
 use std::alloc::Global;
 
@@ -17,6 +18,17 @@ pub struct Views {
     pub versions: Versions,
     /// The reads that wait, in the order in which they came.
     pub reads: Vec<KeptRead>,
+    /// Place by place the group that held the read up when it was last looked at. Nothing need hold of these: each is looked at again before it counts.
+    pub holders: Vec<Option<GroupRef>>,
+}
+
+/// Reads that stay behind a step.
+#[derive(Drop)]
+pub struct StayingReads {
+    /// The reads, in the order in which they came.
+    pub reads: Vec<KeptRead>,
+    /// Place by place the group that holds the read up.
+    pub holders: Vec<Option<GroupRef>>,
 }
 
 impl Views {
@@ -31,6 +43,7 @@ impl Views {
         Views {
             versions: Versions::new(alloc),
             reads: Vec::new(alloc),
+            holders: Vec::new(alloc),
         }
     }
 }
@@ -62,13 +75,14 @@ fn count_of_writes(ran: &[Ran]) -> usize
 
 /// Behind a step that was answered so, and in which this ran: what it wrote is counted, and these reads stay. Takes no memory: the room to count in was
 /// taken as the step was planned.
-pub fn keep_views(views: &mut Views, answer: Handled, ran: &[Ran], stays: Option<Vec<KeptRead>>)
+pub fn keep_views(views: &mut Views, answer: Handled, ran: &[Ran], stays: Option<StayingReads>)
     requires { HasRoomToCount ran.now views.old }
-    ensures { viewing_of views.new ≡ viewing_then (viewing_of views.old) answer ran.now stays }
+    ensures views { viewing_of views.new ≡ viewing_then (viewing_of views.old) answer ran.now stays }
+    ensures holders { IsTrue (is_taken answer) → views.new.holders.items ≡ holders_then views.old.holders.items stays }
 {
     if is_taken(answer) {
         count_writes(&mut views.versions, ran);
-        keep_reads(&mut views.reads, stays);
+        keep_reads(&mut views.reads, &mut views.holders, stays);
     }
 }
 
@@ -94,11 +108,17 @@ fn count_write(versions: &mut Versions, access: &Ran)
 }
 
 // These reads stay, where others stay than are kept.
-fn keep_reads(reads: &mut Vec<KeptRead>, stays: Option<Vec<KeptRead>>)
-    ensures { reads.new.items ≡ reads_then reads.old.items stays }
+fn keep_reads(
+    reads: &mut Vec<KeptRead>,
+    holders: &mut Vec<Option<GroupRef>>,
+    stays: Option<StayingReads>,
+)
+    ensures reads { reads.new.items ≡ reads_then reads.old.items stays }
+    ensures holders { holders.new.items ≡ holders_then holders.old.items stays }
 {
     if let Some(stays) = stays {
-        *reads = stays;
+        *reads = stays.reads;
+        *holders = stays.holders;
     }
 }
 
@@ -107,4 +127,5 @@ pub fn drop_reads(views: &mut Views)
     ensures { viewing_of views.new ≡ without_reads (viewing_of views.old) }
 {
     views.reads.clear();
+    views.holders.clear();
 }

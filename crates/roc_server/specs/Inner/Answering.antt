@@ -1,18 +1,17 @@
 -- What a step leaves that reads see, and what comes of it for reads
-use Rattle.std.specs.Prelude.{◌≡◌, List, [], Option, Vec, if◌then◌else◌}
-use Rattle.std.specs.declared.alloc.Global.{Global}
+use Rattle.std.specs.Prelude.{◌≡◌, List, [], Option, if◌then◌else◌}
 use Rattle.roc_base.specs.declared.id.TxnId.{TxnId}
 use Rattle.roc_msg.specs.declared.msg.Msg.{Msg}
 use Rattle.roc_msg.specs.declared.outbox.Ran.{Ran}
 use Rattle.roc_msg.specs.Outbox.{Collected, HasSent}
 use Rattle.roc_plan.specs.Groups.{Plan}
 use Rattle.roc_step.specs.declared.handled.Handled.{Handled}
-use Rattle.roc_step.specs.declared.kept_read.KeptRead.{KeptRead}
 use Rattle.roc_step.specs.New.{AreDecided}
 use Rattle.roc_step.specs.Reads.{answering, is_taken, reads_with, with_accesses, ReadStep}
 use Rattle.roc_step.specs.State.{ServerState, Viewing}
 use Rattle.roc_server_lists.specs.ListsNow.{newly_of}
 use Rattle.roc_server_reads.specs.Behind.{LeftBehind}
+use Rattle.roc_server_reads.specs.declared.views.StayingReads.{StayingReads}
 use Rattle.roc_server_reads.specs.Views.{viewing_then}
 use Rattle.roc_server.specs.declared.parts.ServerParts.{ServerParts}
 
@@ -26,7 +25,7 @@ read_step plan decided v msg answer state ran =
     if is_taken answer then answering plan decided state (with_accesses v.versions ran) (reads_with msg answer v.reads) else record { viewing = v; sends = [] }
 
 -- these reads stay, and the rest is sent
-pub record PlansReads (plan : Plan) (state : ServerState) (v : Viewing) (msg : Msg) (answer : Handled) (old new : Collected) (stays : Option (Vec KeptRead Global)) : Type 0 where
+pub record PlansReads (plan : Plan) (state : ServerState) (v : Viewing) (msg : Msg) (answer : Handled) (old new : Collected) (stays : Option StayingReads) : Type 0 where
   pub step : (decided : List TxnId) → AreDecided state.lists.links decided
       → ((read_step plan decided v msg answer state old.ran).viewing ≡ viewing_then v answer old.ran stays)
       × HasSent old new (read_step plan decided v msg answer state old.ran).sends

@@ -1,10 +1,11 @@
-use Rattle.std.proofs.Common.{◌≡◌, not, filter}
-use Rattle.roc_server_reads.specs.Behind.{is_free_behind}
+use Rattle.std.proofs.Common.{◌≡◌, ◌++◌, drop}
+use Rattle.roc_server_reads.specs.Inner.Parts.{if_held, if_unheld, of_each, who_holds}
 use Rattle.roc_server_reads.proofs.free_reads.part.Given as goal
 
--- those so far, parted
-abbrev pub invariant-loop-read : goal.invariant-loop-read
-invariant-loop-read l = record {
-  free : l.parted.free.items ≡ filter (is_free_behind l.plan l.behind) l.yielded;
-  stays : l.parted.stays.items ≡ filter (λ q. not (is_free_behind l.plan l.behind q)) l.yielded;
+-- with what comes of those that are left, it is all of it
+abbrev pub invariant-loop-at : goal.invariant-loop-at
+invariant-loop-at l = record {
+  free : l.parted.free.items ++ of_each if_unheld (drop l.at l.holders) (drop l.at l.reads) ≡ of_each if_unheld l.holders l.reads;
+  stays : l.parted.stays.reads.items ++ of_each if_held (drop l.at l.holders) (drop l.at l.reads) ≡ of_each if_held l.holders l.reads;
+  holders : l.parted.stays.holders.items ++ of_each who_holds (drop l.at l.holders) (drop l.at l.reads) ≡ of_each who_holds l.holders l.reads;
 }

@@ -7,19 +7,19 @@ use Rattle.roc_server_reads.specs.Views.{viewing_of}
 use Rattle.roc_server.specs.Inner.Answering.{left_behind}
 use Rattle.roc_server.proofs.ReadsBefore.{index_now}
 use Rattle.roc_server.proofs.ReadSteps.{planned_so}
-use Rattle.roc_server.proofs.reads.answer_reads.Goals as goal
+use Rattle.roc_server.proofs.reads.answer_by_ledger.Goals as goal
 
 pub new-behind-requires-clause-once : goal.new-behind-requires-clause-once
-new-behind-requires-clause-once c = subst (NoneTwice is_same_group) (sym c.started.ensures.groups) c.started.ensures.once
+new-behind-requires-clause-once g c = subst (NoneTwice is_same_group) (sym c.started.ensures.groups) c.started.ensures.once
 
 pub new-behind-requires-clause-refs : goal.new-behind-requires-clause-refs
-new-behind-requires-clause-refs c =
+new-behind-requires-clause-refs g c =
     subst (λ es. IsIndexOf c.index.result.now c.table.result.now.decided es) (sym c.started.ensures.groups)
     (subst (λ ids. IsIndexOf c.index.result.now ids c.args.parts.now.groups.ran) (sym c.table.ensures.decided)
     (subst (λ index. IsIndexOf index c.args.parts.now.lists.decided c.args.parts.now.groups.ran) (sym c.index.ensures) (index_now c.args.parts.now c.requires.sound)))
 
 pub returns-clause-step : goal.returns-clause-step
-returns-clause-step c =
+returns-clause-step g c =
     let k = c.args.parts.now in
     let is : c.new-behind.result ≡ left_behind k =
     c.new-behind.ensures
