@@ -17,7 +17,8 @@ use Rattle.roc_server.specs.declared.parts.ServerParts.{ServerParts}
 use Rattle.roc_server.specs.Inner.Parts.{state_behind, state_of, CanRelease, IsIdle, IsSound, Keeps}
 use Rattle.roc_server_groups.specs.GroupsNow.{groups_behind, others, AreDecidedBehind, GroupsNow, IsUntried}
 use Rattle.roc_server_groups.proofs.IndexSteps.{filter_all}
-use Rattle.roc_server_lists.specs.ListsNow.{lists_behind, newly_of, over_of, tried_or, AreOver, AreSound, IsNoneLeft, KeptLists, ListsNow}
+use Rattle.roc_server_lists.specs.ListsNow.{lists_behind, newly_of, over_of, tried_or, AreSound, IsNoneLeft, KeptLists, ListsNow}
+use Rattle.roc_server_taken.specs.Components.{AreOver}
 
 -- ---- nothing is tried
 

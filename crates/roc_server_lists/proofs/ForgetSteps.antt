@@ -23,7 +23,7 @@ use Rattle.roc_server_table.specs.Kept.{TableLists}
 use Rattle.roc_server_groups.proofs.IndexSteps.{filter_both}
 use Rattle.roc_server_lists.specs.declared.parts.ListParts.{ListParts}
 use Rattle.roc_server_lists.specs.Inner.Keeping.{Forgets, IsOverOf}
-use Rattle.roc_server_lists.specs.Inner.Over.{TakenComponents}
+use Rattle.roc_server_taken.specs.Components.{TakenComponents}
 use Rattle.roc_server_lists.specs.Inner.Parts.{kept_in, AreConsistent, AreRightParts}
 use Rattle.roc_server_lists.specs.Inner.Trials.{lists_forgetting}
 use Rattle.roc_server_news.proofs.FollowedLinks.{links_left}

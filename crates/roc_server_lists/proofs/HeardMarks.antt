@@ -8,7 +8,8 @@ use Rattle.roc_server_groups.specs.GroupsNow.{others}
 use Rattle.roc_server_lists.specs.declared.parts.ListParts.{ListParts}
 use Rattle.roc_server_lists.specs.declared.trial.Heard.{Heard}
 use Rattle.roc_server_lists.specs.declared.trial.Trial.TheVariants.{Marks}
-use Rattle.roc_server_lists.specs.ListsNow.{lists_of, AreOver, IsHeard, IsNoneLeft, KeptLists}
+use Rattle.roc_server_lists.specs.ListsNow.{lists_of, IsHeard, IsNoneLeft, KeptLists}
+use Rattle.roc_server_taken.specs.Components.{AreOver}
 use Rattle.roc_server_lists.specs.Inner.Parts.{kept_in, AreConsistent}
 use Rattle.roc_server_lists.specs.Inner.Trials.{after, lists_forgetting, tried_of, AreMarksTried}
 use Rattle.roc_server_lists.proofs.NoneLeft.{left_forgetting}

@@ -23,7 +23,7 @@ use Rattle.roc_step.specs.Links.{AreLinksOf}
 use Rattle.roc_step.specs.New.{AreNewTaken}
 use Rattle.roc_server_lists.specs.declared.parts.ListParts.{ListParts}
 use Rattle.roc_server_lists.specs.declared.trial.Lesson.{Lesson}
-use Rattle.roc_server_lists.specs.ListsNow.{AreOver}
+use Rattle.roc_server_taken.specs.Components.{AreOver}
 use Rattle.roc_server_lists.specs.Inner.Keeping.{IsOverOf, KeepsFound}
 use Rattle.roc_server_lists.specs.Inner.Parts.{kept_in, AreRightParts}
 use Rattle.roc_server_lists.specs.Inner.Trials.{unlearnt, with_lists, AreListsTried}

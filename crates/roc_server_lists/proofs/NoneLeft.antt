@@ -20,7 +20,8 @@ use Rattle.roc_step.proofs.ForgottenLinks.{known_left, left_known}
 use Rattle.roc_step.proofs.WithoutLinks.{entries_left}
 use Rattle.roc_server_groups.specs.GroupsNow.{others}
 use Rattle.roc_server_groups.proofs.IndexSteps.{filter_all}
-use Rattle.roc_server_lists.specs.ListsNow.{is_missing_at, AreOver, IsNoneLeft, KeptLists}
+use Rattle.roc_server_lists.specs.ListsNow.{is_missing_at, IsNoneLeft, KeptLists}
+use Rattle.roc_server_taken.specs.Components.{AreOver}
 use Rattle.roc_server_lists.specs.Inner.Trials.{lists_forgetting}
 use Rattle.roc_server_lists.proofs.SomeLeft.{any_some}
 

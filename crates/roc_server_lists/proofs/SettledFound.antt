@@ -23,7 +23,8 @@ use Rattle.roc_server_table.specs.Kept.{TableLists}
 use Rattle.roc_server_lists.specs.declared.parts.ListParts.{ListParts}
 use Rattle.roc_server_lists.specs.declared.trial.Settling.{Settling}
 use Rattle.roc_server_lists.specs.declared.trial.Trial.TheVariants.{Settled}
-use Rattle.roc_server_lists.specs.ListsNow.{is_missing_at, lists_of, AreOver, IsNoneLeft, IsSettledBy}
+use Rattle.roc_server_lists.specs.ListsNow.{is_missing_at, lists_of, IsNoneLeft, IsSettledBy}
+use Rattle.roc_server_taken.specs.Components.{AreOver}
 use Rattle.roc_server_lists.specs.Inner.Finding.{AreAlike}
 use Rattle.roc_server_lists.specs.Inner.Parts.{kept_in, AreConsistent}
 use Rattle.roc_server_lists.specs.Inner.Trials.{after, links_settled, lists_forgetting, tried_of, with_settled, IsSettledTried, IsSettling}

@@ -23,9 +23,9 @@ use Rattle.roc_server_groups.proofs.IndexSteps.{filter_both}
 use Rattle.roc_server_lists.specs.declared.parts.ListParts.{ListParts}
 use Rattle.roc_server_lists.specs.declared.trial.Heard.{Heard}
 use Rattle.roc_server_lists.specs.declared.trial.Settling.{Settling}
-use Rattle.roc_server_lists.specs.ListsNow.{AreOver}
+use Rattle.roc_server_taken.specs.Components.{AreOver}
 use Rattle.roc_server_lists.specs.Inner.Keeping.{IsOverOf}
-use Rattle.roc_server_lists.specs.Inner.Over.{TakenComponents}
+use Rattle.roc_server_taken.specs.Components.{TakenComponents}
 use Rattle.roc_server_lists.specs.Inner.Parts.{kept_in, AreRightParts}
 use Rattle.roc_server_lists.specs.Inner.Trials.{links_settled, with_settled, AreMarksTried, IsSettledTried}
 use Rattle.roc_server_news.proofs.FollowedLinks.{links_later, links_marked}

@@ -26,7 +26,8 @@ use Rattle.roc_server_lists.specs.declared.trial.Lesson.{Lesson}
 use Rattle.roc_server_lists.specs.declared.trial.Settling.{Settling}
 use Rattle.roc_server_lists.specs.declared.trial.Trial.{Trial}
 use Rattle.roc_server_lists.specs.declared.trial.Trial.TheVariants.{Asker, Lists, Marks, Settled}
-use Rattle.roc_server_lists.specs.ListsNow.{lists_behind, newly_of, over_of, AreOver, AreSound, ListsNow}
+use Rattle.roc_server_lists.specs.ListsNow.{lists_behind, newly_of, over_of, AreSound, ListsNow}
+use Rattle.roc_server_taken.specs.Components.{AreOver}
 use Rattle.roc_server_lists.specs.Inner.Parts.{AreRightParts}
 use Rattle.roc_server_lists.specs.Inner.Trials.{links_settled, lists_now, unlearnt, AreHeld, AreListsTried, AreMarksTried, IsSettledTried}
 use Rattle.roc_server_news.proofs.FollowedLinks.{links_ids}

@@ -7,7 +7,6 @@ use Rattle.roc_base.specs.declared.id.TxnId.{TxnId}
 use Rattle.roc_base.specs.TxnId.{is_txn, txn_cmp}
 use Rattle.roc_base.specs.Edge.{Dependency}
 use Rattle.roc_depgraph.specs.declared.known.KnownList.{KnownList}
-use Rattle.roc_depgraph.specs.Closure.{IsRisingListOf}
 use Rattle.roc_depgraph.specs.Deps.{is_known}
 use Rattle.roc_step.specs.declared.started.StartedGroup.{StartedGroup}
 use Rattle.roc_step.specs.declared.waits.Asker.{Asker}
@@ -19,6 +18,7 @@ use Rattle.roc_step.specs.Lists.{is_settled, links_of, lists_after, lists_settle
 use Rattle.roc_step.specs.New.{AreDecided, AreNewTaken}
 use Rattle.roc_step.specs.State.{hearing, is_here, Lists, ServerState}
 use Rattle.roc_step.specs.Waits.{none_waiting, was_asked_for, with_asker}
+use Rattle.roc_server_taken.specs.Components.{AreOver}
 use Rattle.roc_server_groups.specs.GroupsNow.{others, AreDecidedBehind}
 
 -- ---- what is kept, and what is tried
@@ -83,10 +83,6 @@ none_kept = record { lists = no_lists; below = none_below }
 -- the lists and watermarks of a state
 abbrev pub lists_of : ServerState → KeptLists
 lists_of s = record { lists = s.lists; below = s.below }
-
--- exactly the transactions of components that are over, by id rising
-abbrev pub AreOver : (below : List ℕ) → (taken : List (List TxnId)) → (ids : List TxnId) → Type 0
-AreOver below taken ids = IsRisingListOf (IsListed is_txn (over below taken)) ids
 
 -- new lists are taught
 pub record IsTaught (s : ServerState) (decided : List TxnId) (news : List KnownList) (t : TriedLists) : Type 0 where

@@ -5,19 +5,19 @@ ghost use Rattle.roc_base.specs.TxnId.{is_txn, txn_cmp};
 ghost use Rattle.roc_sequence.specs.Places.{IsListed};
 ghost use Rattle.roc_step.specs.Forgets.{over};
 ghost use Rattle.roc_step.specs.New.{AreNewTaken};
-ghost use Rattle.roc_server_lists.specs.ListsNow.{AreOver};
+ghost use Rattle.roc_server_taken.specs.Components.{AreOver};
 ghost use Rattle.roc_server_lists.specs.Inner.Finding.{AreAlike, AreIdsSame, FindsOfNews};
 ghost use Rattle.roc_server_lists.specs.Inner.Trials.{HasRoomToKeep};
 
 use crate::missing::missing_from;
 use crate::parts::ListParts;
-use crate::taken::{over_within, push_members};
 use crate::teaching::Named;
 use crate::trial::Found;
 use roc_base::{NoMemory, TxnId};
 use roc_sequence::Sequence;
 use roc_server_groups::StartedGroups;
 use roc_server_table::ListTable;
+use roc_server_taken::{over_within, push_members};
 use std::alloc::Global;
 
 // Finds what comes of lists that were learnt last and name this, and what is over then, and takes the room for it.

@@ -6,20 +6,16 @@
 //! was kept. [`ServerLists::release`] then keeps the step, and [`ServerLists::rollback`] gives it up: neither takes memory. Behind each call it is
 //! known what is decided by what is kept, and what will be by what the step leaves (`AreSound`).
 //!
-//! Which components are over is found by coordinator and sequence, and none is looked at that has no ended transaction (`lent_components.rt`).
+//! The components that were taken, with the watermarks, are of `roc_server_taken`.
 #![tactic(auto)]
 
-mod components;
 mod finding;
 mod keeping;
-mod lent_components;
-mod marks;
 mod missing;
 mod parts;
 mod preparing;
 mod server_lists;
 mod settling;
-mod taken;
 mod teaching;
 mod trial;
 mod trying;

@@ -8,13 +8,13 @@ ghost use Rattle.roc_step.specs.Waits.{was_asked_for};
 ghost use Rattle.roc_server_lists.specs.ListsNow.{is_missing_at};
 ghost use Rattle.roc_server_lists.specs.Inner.Finding.{asked_by, is_done_with, AreIdsSame};
 
-use crate::marks::Marks;
 use crate::parts::ListParts;
 use roc_await::{OpenFetch, Waits};
 use roc_base::{Edge, NoMemory, Shard, TxnId};
 use roc_depgraph::is_among_rising;
 use roc_server_groups::{StartedGroups, is_here};
 use roc_server_table::ListTable;
+use roc_server_taken::Marks;
 use std::alloc::Global;
 
 // Of the transactions that entries name, those of which the entries are done as they are learnt.

@@ -3,10 +3,9 @@ ghost use Rattle.std.specs.Prelude.{◌≡◌, []};
 ghost use Rattle.roc_server_lists.specs.ListsNow.{no_lists, none_kept};
 ghost use Rattle.roc_server_lists.specs.Inner.Parts.{kept_in, AreConsistent};
 
-use crate::marks::Marks;
-use crate::taken::Taken;
 use roc_await::Waits;
 use roc_server_table::ListTable;
+use roc_server_taken::{Marks, Taken};
 use std::alloc::Global;
 
 // The lists as they were learnt with what is followed of them and the transactions that are decided by this, who waits for which list, the

@@ -12,12 +12,12 @@ ghost use Rattle.roc_server_lists.specs.Inner.Trials.{after, tried_of, unlearnt,
 use crate::finding::find_with_room;
 use crate::parts::ListParts;
 use crate::settling::find_settled;
-use crate::taken::over_among;
 use crate::teaching::learn;
 use crate::trial::{Heard, Lesson, Settling};
 use roc_base::{NoMemory, Shard, TxnId};
 use roc_depgraph::KnownList;
 use roc_server_groups::StartedGroups;
+use roc_server_taken::over_among;
 use std::alloc::Global;
 
 // Lists of transactions of which none is known are learnt, and what comes of them is found.

@@ -7,13 +7,12 @@ ghost use Rattle.roc_step.specs.New.{AreNewTaken};
 ghost use Rattle.roc_server_lists.specs.Inner.Trials.{links_settled, IsSettling};
 
 use crate::finding::find_taken;
-use crate::marks::Marks;
 use crate::parts::ListParts;
-use crate::taken::{over_among, push_members};
 use crate::trial::Settling;
 use roc_base::{NoMemory, TxnId};
 use roc_sequence::Sequence;
 use roc_server_table::ListTable;
+use roc_server_taken::{Marks, over_among, push_members};
 use std::alloc::Global;
 
 // Finds what comes of a settled transaction.

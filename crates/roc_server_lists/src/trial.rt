@@ -4,11 +4,11 @@ ghost use Rattle.roc_server_lists.specs.ListsNow.{asks_of, newly_of, over_of};
 ghost use Rattle.roc_server_lists.specs.declared.parts.ListParts.{ListParts as Parts};
 ghost use Rattle.roc_server_lists.specs.Inner.Trials.{asks, lists_now, newly, over_by};
 
-use crate::marks::Marks;
 use roc_await::{Asker, OpenFetch};
 use roc_base::TxnId;
 use roc_depgraph::KnownList;
 use roc_sequence::Sequence;
+use roc_server_taken::Marks;
 
 // What is missing, the components that become decided, as they are taken, and the transactions in them, one after another.
 #[derive(Drop)]

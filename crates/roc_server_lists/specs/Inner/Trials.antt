@@ -21,7 +21,8 @@ use Rattle.roc_server_lists.specs.declared.trial.Lesson.{Lesson}
 use Rattle.roc_server_lists.specs.declared.trial.Settling.{Settling}
 use Rattle.roc_server_lists.specs.declared.trial.Trial.{Trial}
 use Rattle.roc_server_lists.specs.declared.trial.Trial.TheVariants.{Asker, Lists, Marks, Settled}
-use Rattle.roc_server_lists.specs.ListsNow.{with_one_asking, AreOver, KeptLists, ListsNow, TriedLists}
+use Rattle.roc_server_lists.specs.ListsNow.{with_one_asking, KeptLists, ListsNow, TriedLists}
+use Rattle.roc_server_taken.specs.Components.{AreOver}
 use Rattle.roc_server_lists.specs.Inner.Parts.{kept_in, AreConsistent}
 
 -- ---- before a trial

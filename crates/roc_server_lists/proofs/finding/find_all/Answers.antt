@@ -7,7 +7,8 @@ use Rattle.roc_base.specs.declared.id.TxnId.{TxnId}
 use Rattle.roc_base.specs.TxnId.{is_txn}
 use Rattle.roc_depgraph.specs.Closure.{IsRisingListOf}
 use Rattle.roc_step.specs.Forgets.{is_over, over}
-use Rattle.roc_server_lists.specs.ListsNow.{is_missing_at, AreOver}
+use Rattle.roc_server_lists.specs.ListsNow.{is_missing_at}
+use Rattle.roc_server_taken.specs.Components.{AreOver}
 use Rattle.roc_server_lists.specs.Inner.Finding.{asked_by}
 use Rattle.roc_server_lists.proofs.finding.find_all.Goals as goal
 

@@ -1,6 +1,6 @@
 use Rattle.std.proofs.Common.{List, subst, append-nil}
 use Rattle.roc_base.specs.declared.id.TxnId.{TxnId}
-use Rattle.roc_server_lists.specs.ListsNow.{AreOver}
+use Rattle.roc_server_taken.specs.Components.{AreOver}
 use Rattle.roc_server_lists.proofs.HeardMarks.{hears, heard_left, marks_tried}
 use Rattle.roc_server_lists.proofs.preparing.prepare_heard.Goals as goal
 

@@ -6,7 +6,7 @@ use Rattle.roc_base.specs.TxnId.{is_txn}
 use Rattle.roc_sequence.specs.Places.{IsListed}
 use Rattle.roc_server_table.specs.Kept.{TableLists}
 use Rattle.roc_step.specs.New.{AreNewTaken}
-use Rattle.roc_server_lists.specs.ListsNow.{AreOver}
+use Rattle.roc_server_taken.specs.Components.{AreOver}
 use Rattle.roc_server_lists.specs.Inner.Trials.{links_settled}
 use Rattle.roc_server_lists.proofs.settling.find_settled.Goals as goal
 

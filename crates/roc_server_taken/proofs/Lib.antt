@@ -1,0 +1,6 @@
+mod Ended
+mod EndedCount
+mod LeftOpen
+mod OverAdded
+mod Standing
+mod TurnOrder

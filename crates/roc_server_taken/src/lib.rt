@@ -1,0 +1,15 @@
+//! The components that a server has taken and not forgotten, and the watermarks of coordinators, by which a component is over (`docs/PROTOCOL.md`,
+//! "Forgetting").
+//!
+//! Contracts see [`Taken`] as the components in the order in which they were taken, with how many more find room (`specs/Components.antt`), and
+//! [`Marks`] as the watermarks of `roc_step`. Which components are over is found by coordinator and sequence: each stands under one of its transactions that
+//! is not ended, and none is looked at that has no ended transaction (`lent_components.rt`).
+#![tactic(auto)]
+
+mod components;
+mod lent_components;
+mod marks;
+mod taken;
+
+pub use marks::Marks;
+pub use taken::{Taken, over_among, over_within, push_members};
