@@ -1,5 +1,5 @@
 //! Groups of lacks, once nobody has to wait any more for some transactions.
-ghost use Rattle.std.specs.Prelude.{◌≡◌, ◌++◌, IfOk, OnOk};
+ghost use Rattle.std.specs.Prelude.{◌≡◌, IfOk};
 ghost use Rattle.roc_await.specs.Inner.Groups.{all_lacks};
 ghost use Rattle.roc_await.specs.Inner.Shortened.{all_but, AreShortened};
 

@@ -5,7 +5,7 @@ ghost use Rattle.roc_program.specs.Conflict.{are_in_conflict};
 ghost use Rattle.roc_program.specs.Parts as view;
 ghost use Rattle.roc_program.specs.declared.piece_id.PieceId.{PieceId};
 ghost use Rattle.roc_check.specs.Inner.PieceSets.{holds, is_piece};
-ghost use Rattle.roc_check.specs.Inner.Users.{is_at, counts, is_user, meets_by, Marks, Adds, AreUsers};
+ghost use Rattle.roc_check.specs.Inner.Users.{is_at, is_user, meets_by, Marks, Adds, AreUsers};
 
 use crate::piece_sets::{united, with_piece};
 use roc_base::NoMemory;

@@ -1,5 +1,5 @@
 //! The logs of nodes: each file is read, judged and taken before the next is read.
-ghost use Rattle.std.specs.Prelude.{◌≡◌, ℕ, List, [], ◌∷◌, ◌++◌, length, false, IfOk, IfErr};
+ghost use Rattle.std.specs.Prelude.{◌≡◌, ℕ, List, [], false, IfOk, IfErr};
 ghost use Rattle.roc_io.specs.Cause.{HasCause};
 ghost use Rattle.roc_log.specs.declared.line.Log.{Log};
 ghost use Rattle.roc_auditor.specs.Taken.{HasTaken};

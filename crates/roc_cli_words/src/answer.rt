@@ -1,5 +1,5 @@
 //! What `ask` answers.
-ghost use Rattle.std.specs.Prelude.{◌≡◌, map, string_bytes, IfOk};
+ghost use Rattle.std.specs.Prelude.{map, string_bytes, IfOk};
 ghost use Rattle.clap.specs.Words.{kind_of};
 ghost use Rattle.roc_cli_words.specs.Answer.{AnswersWords, RefusesWords};
 ghost use Rattle.roc_cli_words.specs.Commands.{IsWithin, command_of};

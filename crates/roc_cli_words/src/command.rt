@@ -1,5 +1,5 @@
 //! What words ask for.
-ghost use Rattle.std.specs.Prelude.{◌≡◌, ◌≤◌, ℕ, false, List, [], length, map, take, IfOk, IfSome, option_and_then, option_map, unwrap_or};
+ghost use Rattle.std.specs.Prelude.{◌≡◌, ◌≤◌, false, List, [], length, map, take, IfOk, IfSome, option_and_then, option_map};
 ghost use Rattle.std.specs.Result.{result_map_both};
 ghost use Rattle.roc_cli_words.specs.Values.{with_partner};
 ghost use Rattle.clap.specs.Words.{Text, first_of, found_of, rows_of, subcommand_rows_of};

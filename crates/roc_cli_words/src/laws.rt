@@ -1,5 +1,5 @@
 //! Laws of the words, over all names of files. Each is the contract of a function that does nothing.
-ghost use Rattle.std.specs.Prelude.{◌≡◌, ◌≤◌, ◌<◌, ℕ, Bool, List, codes, length, [], ◌∷◌, Some, None, Ok, false};
+ghost use Rattle.std.specs.Prelude.{◌≡◌, ◌≤◌, ◌<◌, ℕ, Bool, List, codes, length, [], ◌∷◌, Some, None, Ok};
 ghost use Rattle.std.specs.List.{AllByRecursion};
 ghost use Rattle.clap.specs.Words.{Text};
 ghost use Rattle.roc_cli_words.specs.declared.value.Part.{Part};

@@ -1,5 +1,5 @@
 //! The command line as `clap` is given it.
-ghost use Rattle.std.specs.Prelude.{◌≡◌, IfOk, false, codes};
+ghost use Rattle.std.specs.Prelude.{◌≡◌, IfOk, false};
 ghost use Rattle.clap.specs.Words.{App, Rule, app_of, rule_of, with_rule, with_subcommand};
 ghost use Rattle.roc_cli_words.specs.Inner.Building.{IsSoFar};
 ghost use Rattle.roc_cli_words.specs.Program.{standing_rule, named_rule, flag_rule, choice_rule, many_rule};

@@ -1,7 +1,6 @@
 //! `parse_cluster`: from the bytes of a cluster file to its addresses.
 
-ghost use Rattle.std.specs.Prelude.{ℕ, List, IfOk, IfErr};
-ghost use Rattle.toml.specs.Parse.{parse_document};
+ghost use Rattle.std.specs.Prelude.{List, IfOk, IfErr};
 ghost use Rattle.toml.specs.View.{table_view};
 ghost use Rattle.roc_io.specs.declared.link.Addr.{Addr};
 ghost use Rattle.roc_cluster.specs.File.{IsDocument, IsClusterOf, IsClusterFile};

@@ -1,6 +1,5 @@
 //! The strongly connected components of a set.
-ghost use Rattle.std.specs.Prelude.{IfOk, OnOk};
-ghost use Rattle.roc_base.specs.TxnId.{is_txn};
+ghost use Rattle.std.specs.Prelude.{IfOk};
 ghost use Rattle.roc_component.specs.Components.{AreComponentsOf, AreRisingOf, AreTakenRising};
 
 use crate::component_order::taken_components;

@@ -1,5 +1,5 @@
 //! What a coordinator sends again at a tick.
-ghost use Rattle.std.specs.Prelude.{◌≡◌, List, OnOk, OnErr};
+ghost use Rattle.std.specs.Prelude.{OnOk, OnErr};
 ghost use Rattle.std.specs.List.{flat_map, AllByRecursion};
 ghost use Rattle.roc_msg.specs.Outbox.{HoldsSame, HasSent};
 ghost use Rattle.roc_readonly.specs.Fits.{IsViewOf};

@@ -1,5 +1,5 @@
 //! The commit round: the union of what the groups were told, and what is sent to commit.
-ghost use Rattle.std.specs.Prelude.{◌≡◌, ◌++◌, ◌==◌, not, filter, map, IfOk, OnOk};
+ghost use Rattle.std.specs.Prelude.{◌≡◌, ◌==◌, not, filter, map, IfOk, OnOk};
 ghost use Rattle.std.specs.List.{flat_map, list_any};
 ghost use Rattle.roc_base.specs.Edges.{united};
 ghost use Rattle.roc_msg.specs.Outbox.{HasSent};

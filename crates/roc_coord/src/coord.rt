@@ -1,5 +1,5 @@
 //! A coordinator: submissions and the answers to its requests.
-ghost use Rattle.std.specs.Prelude.{◌≡◌, ◌<◌, ◌++◌, false, true, length, None, IfOk, OnOk, OnErr};
+ghost use Rattle.std.specs.Prelude.{◌≡◌, ◌<◌, true, length, None, IfOk, OnOk, OnErr};
 ghost use Rattle.roc_msg.specs.Outbox.{HoldsSame, HasSent, KeepsRoom};
 ghost use Rattle.roc_plan.specs.Groups.{procedure_of, is_view_of, Plan as Accepted};
 ghost use Rattle.roc_readonly.specs.Fits.{IsViewOf};

@@ -1,5 +1,5 @@
 //! The views of a coordinator that have no reply yet, by id rising.
-ghost use Rattle.std.specs.Prelude.{◌≡◌, ℕ, List, not, filter, position, IfOk, OnOk, OnErr};
+ghost use Rattle.std.specs.Prelude.{◌≡◌, List, not, filter, position, IfOk, OnOk, OnErr};
 ghost use Rattle.std.specs.Option.{option_copied};
 ghost use Rattle.std.specs.List.{AllByRecursion};
 ghost use Rattle.roc_base.specs.TxnId.{is_txn, txn_lt};

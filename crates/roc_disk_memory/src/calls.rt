@@ -1,5 +1,5 @@
 // Which calls of a disk in memory fail.
-ghost use Rattle.std.specs.Prelude.{◌≤◌, ◌≡◌};
+ghost use Rattle.std.specs.Prelude.{◌≡◌};
 ghost use Rattle.roc_io.specs.Cause.{HasCause};
 
 /// The calls made on a disk, by number from 1: those that are to fail, and the first of those that come to nothing.

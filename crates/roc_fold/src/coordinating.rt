@@ -1,5 +1,5 @@
 //! The fold of a coordinator's log.
-ghost use Rattle.std.specs.Prelude.{◌≡◌, ◌++◌, [], List, IfOk, OnOk, drop};
+ghost use Rattle.std.specs.Prelude.{◌≡◌, ◌++◌, [], IfOk, OnOk, drop};
 ghost use Rattle.roc_coord.specs.Fits.{CoordFits};
 ghost use Rattle.roc_coord.specs.Tick.{tick_sends};
 ghost use Rattle.roc_log.specs.declared.line.LogLine.TheVariants.{In, Submit};

@@ -1,5 +1,5 @@
 //! Lines that are due.
-ghost use Rattle.std.specs.Prelude.{◌≡◌, ◌↔◌, ◌<◌, ◌++◌, [], List, IsTrue, IfOk, OnOk, drop, length};
+ghost use Rattle.std.specs.Prelude.{◌≡◌, ◌↔◌, ◌<◌, ◌++◌, IsTrue, IfOk, OnOk, length};
 ghost use Rattle.roc_log.specs.declared.line.LogLine.TheVariants.{Submit, In, Tick, Out, Answer};
 ghost use Rattle.roc_plan.specs.Groups.{Plan as PlanValue};
 ghost use Rattle.roc_wire.specs.declared.header.Header.{Header as HeaderValue};

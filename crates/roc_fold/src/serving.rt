@@ -1,5 +1,5 @@
 //! The fold of a server's log.
-ghost use Rattle.std.specs.Prelude.{◌≡◌, ◌∷◌, ◌++◌, [], List, IfOk, OnOk, drop, map};
+ghost use Rattle.std.specs.Prelude.{◌≡◌, ◌++◌, [], List, IfOk, OnOk, drop, map};
 ghost use Rattle.roc_log.specs.declared.line.LogLine.TheVariants.{In};
 ghost use Rattle.roc_base.specs.declared.id.TxnId.{TxnId as Id};
 ghost use Rattle.roc_server.specs.Ahead.{ServingFits};

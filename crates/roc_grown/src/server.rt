@@ -36,7 +36,6 @@ impl Model for GrownServer {
     ghost use Rattle.std.specs.Prelude.{◌≡◌, None};
     ghost use Rattle.std.specs.Coded.{codes};
     ghost use Rattle.roc_step.specs.Codes.{coded_state, coded_viewing};
-    ghost use Rattle.roc_grown.specs.declared.handled.GrownHandled.TheVariants.{Done as done};
     ghost use Rattle.roc_grown.specs.Server.{GrownServerState};
 
     ghost Value = { GrownServerState };

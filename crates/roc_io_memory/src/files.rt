@@ -1,5 +1,5 @@
 // Files in memory.
-ghost use Rattle.std.specs.Prelude.{◌≡◌, ℕ, ◌<◌, ◌≤◌, List, [], Some, true, false, length, IfSome, unwrap_or, option_map, is_none};
+ghost use Rattle.std.specs.Prelude.{◌≡◌, ◌<◌, List, [], Some, false, IfSome, unwrap_or, option_map, is_none};
 ghost use Rattle.roc_io_memory.specs.Calls.{calls_failing, next_fails, called};
 ghost use Rattle.roc_io.specs.Cause.{HasCause};
 ghost use Rattle.roc_io.specs.Observed.{AddsIf};

@@ -1,5 +1,5 @@
 // Links in memory.
-ghost use Rattle.std.specs.Prelude.{◌≡◌, [], ◌∷◌, Some, None, true, false, option_map};
+ghost use Rattle.std.specs.Prelude.{◌≡◌, [], ◌∷◌, Some, true, false, option_map};
 ghost use Rattle.roc_io_memory.specs.Calls.{calls_failing, next_fails, called};
 ghost use Rattle.roc_io.specs.Cause.{HasCause};
 ghost use Rattle.roc_io.specs.Link.{bind_failed, send_failed, send_event, receive_failed, Receives, reception, receiving};

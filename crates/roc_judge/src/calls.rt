@@ -3,7 +3,7 @@ ghost use Rattle.std.specs.Prelude.{◌≡◌, ◌∷◌, [], find, is_none, not
 ghost use Rattle.roc_audit.specs.Witness.{submitted_call};
 ghost use Rattle.roc_base.specs.declared.id.TxnId.{TxnId as Id};
 ghost use Rattle.roc_judge.specs.Before.{told};
-ghost use Rattle.roc_judge.specs.Inner.Sets.{call_in, called_by, first_of, only_at};
+ghost use Rattle.roc_judge.specs.Inner.Sets.{call_in, first_of, only_at};
 
 use crate::Folded;
 use roc_audit::Entry;

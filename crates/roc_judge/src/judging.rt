@@ -1,5 +1,5 @@
 //! `judge`.
-ghost use Rattle.std.specs.Prelude.{◌≡◌, IfOk, List};
+ghost use Rattle.std.specs.Prelude.{◌≡◌, IfOk};
 ghost use Rattle.roc_sequence.specs.Places.{IsListed};
 ghost use Rattle.roc_base.specs.TxnId.{is_txn};
 ghost use Rattle.roc_depgraph.specs.Closure.{IsRisingListOf};

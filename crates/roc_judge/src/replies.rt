@@ -1,5 +1,5 @@
 //! Serial runs, and the replies that are not theirs.
-ghost use Rattle.std.specs.Prelude.{◌≡◌, ◌++◌, [], unwrap_or, IfOk, OnOk};
+ghost use Rattle.std.specs.Prelude.{◌≡◌, [], unwrap_or, IfOk, OnOk};
 ghost use Rattle.std.specs.List.{filter_map};
 ghost use Rattle.roc_audit.specs.Witness.{reply_in};
 ghost use Rattle.roc_base.specs.declared.id.TxnId.{TxnId as Id};

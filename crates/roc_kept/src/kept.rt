@@ -1,5 +1,5 @@
 //! A server that keeps what it took.
-ghost use Rattle.std.specs.Prelude.{◌≡◌, ◌||◌, ◌++◌, ◌∷◌, [], ℕ, List, Option, true, false, None, IfOk, OnOk, OnErr};
+ghost use Rattle.std.specs.Prelude.{◌≡◌, ◌||◌, [], ℕ, List, Option, true, false, None, IfOk, OnOk, OnErr};
 ghost use Rattle.roc_io.specs.Cause.{HasCause};
 ghost use Rattle.roc_disk.specs.Over.{LeavesOnly};
 ghost use Rattle.roc_msg.specs.Outbox.{HasSent, HoldsSame};

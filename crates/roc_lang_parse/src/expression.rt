@@ -2,7 +2,6 @@
 
 ghost use Rattle.std.specs.Prelude.{◌≡◌, ◌+◌, ◌-◌, ◌<◌, ◌≤◌, IfOk};
 ghost use Rattle.roc_lang.specs.Grammar.{standard};
-ghost use Rattle.roc_lang.specs.Syntax.{Pick};
 ghost use Rattle.roc_lang.specs.Tree.{expression_tree};
 ghost use Rattle.roc_lang_parse.specs.Inner.Views.{ReadsAs, token_views, deep_view, function_word, function_of};
 ghost use Rattle.roc_lang_parse.specs.Parts.{behind_comma_at};

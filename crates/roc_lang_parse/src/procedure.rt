@@ -1,6 +1,6 @@
 //! Names, pieces and procedures, and lists of them.
 
-ghost use Rattle.std.specs.Prelude.{◌≡◌, ◌-◌, map};
+ghost use Rattle.std.specs.Prelude.{◌-◌, map};
 ghost use Rattle.roc_lang.specs.Grammar.{standard};
 ghost use Rattle.roc_lang.specs.Tree.{name_tree, expression_tree, piece_tree, procedure_tree};
 ghost use Rattle.roc_lang_parse.specs.Inner.Views.{ReadsAs, token_views};

@@ -1,6 +1,6 @@
 //! Statements, and lists of them.
 
-ghost use Rattle.std.specs.Prelude.{◌≡◌, ◌-◌, map};
+ghost use Rattle.std.specs.Prelude.{◌-◌, map};
 ghost use Rattle.roc_lang.specs.Grammar.{standard};
 ghost use Rattle.roc_lang.specs.Tree.{expression_tree, access_tree, statement_tree};
 ghost use Rattle.roc_lang_parse.specs.Inner.Views.{ReadsAs, token_views};

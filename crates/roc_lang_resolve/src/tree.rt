@@ -1,5 +1,5 @@
 //! From the names of a workload text to numbers.
-ghost use Rattle.std.specs.Prelude.{◌≡◌, ◌<◌, ◌≤◌, ◌^◌, [], length, map, IfOk, IfErr};
+ghost use Rattle.std.specs.Prelude.{◌≡◌, ◌<◌, ◌^◌, [], length, map, IfOk, IfErr};
 ghost use Rattle.std.specs.List.{AllByRecursion};
 ghost use Rattle.std.specs.String.{string_bytes};
 ghost use Rattle.roc_lang.specs.Tree.{name_tree, expression_tree, access_tree, statement_tree, piece_tree, procedure_tree, table_tree, init_tree};

@@ -1,6 +1,6 @@
 //! Why bytes are no log.
 
-ghost use Rattle.std.specs.Prelude.{◌≡◌, Some, IfOk, string_bytes};
+ghost use Rattle.std.specs.Prelude.{◌≡◌, IfOk, string_bytes};
 ghost use Rattle.roc_log.specs.FaultText.{what_text};
 ghost use Rattle.roc_log.specs.Inner.Given.{with_line_number};
 ghost use Rattle.roc_log.specs.declared.fault.LineFault.TheVariants as line;

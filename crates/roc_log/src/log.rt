@@ -1,6 +1,6 @@
 //! `parse_log`: from the bytes of a log to its lines.
 
-ghost use Rattle.std.specs.Prelude.{◌≡◌, Err, IfOk, IfErr};
+ghost use Rattle.std.specs.Prelude.{Err, IfOk, IfErr};
 ghost use Rattle.roc_log.specs.declared.line.Log.{Log};
 ghost use Rattle.roc_log.specs.Words.{log_lines};
 ghost use Rattle.roc_log.specs.Logs.{IsLog, IsLogFault, IsLogOr, IsFaultBy};

@@ -1,7 +1,6 @@
 //! The merged groups.
 ghost use Rattle.std.specs.Prelude.{◌≡◌, ◌↔◌, ◌<◌, ◌≤◌, [], ◌∷◌, ◌++◌, if◌then◌else◌, ℕ, length, map, filter, IsTrue, IfOk, OnOk};
 ghost use Rattle.std.specs.List.{list_any, range_with_len};
-ghost use Rattle.roc_program.specs.Pieces.{pieces_in};
 ghost use Rattle.roc_conflict.specs.Classes.{is_immediate};
 ghost use Rattle.roc_conflict.specs.Columns.{AreAll};
 ghost use Rattle.roc_merge_groups.specs.Core.{InCore};

@@ -1,5 +1,5 @@
 //! Merging whole workloads.
-ghost use Rattle.std.specs.Prelude.{◌≡◌, ◌↔◌, ◌⊎◌, IsOk, IfOk, IsErrOf};
+ghost use Rattle.std.specs.Prelude.{◌↔◌, ◌⊎◌, IsOk, IfOk, IsErrOf};
 ghost use Rattle.roc_program.specs.declared.piece_id.PieceId.{PieceId};
 ghost use Rattle.roc_conflict.specs.Classes.{is_immediate};
 ghost use Rattle.roc_merge_groups.specs.Core.{IsAcceptable};

@@ -3,10 +3,8 @@ ghost use Rattle.std.specs.Prelude.{◌≡◌, ◌≢◌, ◌↔◌, ℕ, false,
 ghost use Rattle.std.specs.List.{AllByRecursion, list_any};
 ghost use Rattle.roc_program.specs.Pieces.{pieces_in};
 ghost use Rattle.roc_merge_groups.specs.Flow.{feeds, Leads};
-ghost use Rattle.roc_merge_groups.specs.Grouping.{IsGrouping};
 ghost use Rattle.roc_merge_groups.specs.Accepted.{group_feeds};
 ghost use Rattle.roc_merge_groups.specs.Parts.{IsPart};
-ghost use Rattle.roc_merge_groups.specs.Paths.{leads_below};
 ghost use Rattle.roc_merge_accept.specs.Inner.Paths.{entry, IsPaths};
 
 use crate::feeds;

@@ -1,7 +1,7 @@
 //! The lines of nodes.
-ghost use Rattle.std.specs.Prelude.{◌≡◌, ◌++◌, ◌∷◌, [], OnOk, OnErr};
+ghost use Rattle.std.specs.Prelude.{◌≡◌, ◌++◌, OnOk, OnErr};
 ghost use Rattle.std.specs.String.{string_bytes};
-ghost use Rattle.roc_node.specs.NodeLine.{skip_text, ender_text, where_some, node_line_words, node_line_text, node_lines_text, skip_lines, ignore_lines, count_lines, end_lines};
+ghost use Rattle.roc_node.specs.NodeLine.{ender_text, where_some, node_line_words, node_line_text, node_lines_text, skip_lines, ignore_lines, end_lines};
 
 use crate::{Counts, IgnoreCounts, Skip, SkipCounts};
 use roc_base::{NoMemory, Shard, TxnId};

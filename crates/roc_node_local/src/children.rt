@@ -1,5 +1,5 @@
 //! The servers of a cluster as children of this process.
-ghost use Rattle.std.specs.Prelude.{◌≡◌, ◌≤◌, ◌++◌, ◌∷◌, [], ℕ, List, map, length, replicate, codes, string_bytes, Some, None, IfOk, OnOk, IsNone, IfSome, if◌then◌else◌};
+ghost use Rattle.std.specs.Prelude.{◌≡◌, ◌≤◌, ◌++◌, ◌∷◌, [], map, length, replicate, string_bytes, Some, None, IfOk, OnOk, IsNone, IfSome, if◌then◌else◌};
 ghost use Rattle.std.specs.Fmt.{decimal};
 ghost use Rattle.roc_io.specs.Cause.{Rose};
 ghost use Rattle.roc_io.specs.Observed.{Adds};

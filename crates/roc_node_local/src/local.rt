@@ -1,5 +1,5 @@
 //! A run with the servers of its cluster as children.
-ghost use Rattle.std.specs.Prelude.{◌≡◌, ◌≤◌, false, ℕ, List, [], length, map, string_bytes, None, IfOk};
+ghost use Rattle.std.specs.Prelude.{◌≡◌, ◌≤◌, false, ℕ, List, [], length, map, None, IfOk};
 ghost use Rattle.roc_io.specs.Call.{children_call, link_call, link_view, sink_call};
 ghost use Rattle.roc_io.specs.Cause.{HasCause};
 ghost use Rattle.roc_io.specs.Link.{sending};

@@ -9,7 +9,7 @@ ghost use Rattle.roc_node.specs.NodeEvent.{silent};
 ghost use Rattle.roc_node.specs.Setting.{setting_of};
 ghost use Rattle.roc_coord.specs.Step.{after_message};
 ghost use Rattle.roc_node.specs.Judgement.{judged};
-ghost use Rattle.roc_node_submit.specs.CoordRun.{reply_lines, reply_logged, datagram_logged, answered_then, step_of_judged};
+ghost use Rattle.roc_node_submit.specs.CoordRun.{reply_lines, datagram_logged, answered_then, step_of_judged};
 ghost use Rattle.roc_node_submit.specs.Inner.CoordTurn.{SubmitsOne, SubmitsSome, SubmitsHalf, TakesStep, TakesHalf, gathered};
 
 use crate::logging::{log_message, log_silence, log_submission};

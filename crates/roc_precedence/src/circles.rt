@@ -1,8 +1,6 @@
 //! Who is on a cycle of pairs.
 ghost use Rattle.std.specs.Prelude.{◌≡◌, IfOk, filter};
 ghost use Rattle.std.specs.List.{flat_map};
-ghost use Rattle.std.specs.List.Sorted.{IsStrictlySortedBy};
-ghost use Rattle.roc_base.specs.TxnId.{is_txn, txn_cmp};
 ghost use Rattle.roc_component.specs.Components.{among};
 ghost use Rattle.roc_depgraph.specs.Closure.{IsRisingListOf};
 ghost use Rattle.roc_depgraph.specs.Deps.{Precedes};

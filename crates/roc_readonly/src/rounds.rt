@@ -1,7 +1,6 @@
 //! What a round of a view comes to.
 ghost use Rattle.std.specs.Prelude.{◌≡◌, ◌<◌, ◌==◌, length, Some, IfOk};
 ghost use Rattle.std.specs.List.{list_any};
-ghost use Rattle.roc_plan.specs.Groups.{groups_of};
 ghost use Rattle.roc_readonly.specs.Round.{find_read, is_full, is_same_reading, is_steady, most_writes, view_reply};
 
 use crate::reads::{find_read, has_read};

@@ -1,7 +1,6 @@
 //! What a coordinator keeps of a view that has no reply yet, and what it does for it.
-ghost use Rattle.std.specs.Prelude.{◌≡◌, ◌<◌, ◌∷◌, IfOk, OnOk, OnErr, length};
+ghost use Rattle.std.specs.Prelude.{◌≡◌, ◌<◌, IfOk, OnOk, OnErr};
 ghost use Rattle.roc_msg.specs.Outbox.{HoldsSame, HasSent, KeepsRoom};
-ghost use Rattle.roc_plan.specs.Groups.{groups_of};
 ghost use Rattle.roc_readonly.specs.Fits.{IsViewOf};
 ghost use Rattle.roc_readonly.specs.Round.{reads_of, reads_again, first_round, last_round, next_round, with_readok, is_fit_readok, readok_refusal, round_of};
 

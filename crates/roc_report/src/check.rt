@@ -1,5 +1,5 @@
 //! The text of a line of `check`.
-ghost use Rattle.std.specs.Prelude.{◌≡◌, ◌++◌, OnOk, OnErr, codes};
+ghost use Rattle.std.specs.Prelude.{◌≡◌, ◌++◌, OnOk, OnErr};
 ghost use Rattle.std.specs.String.{string_bytes};
 ghost use Rattle.roc_program.specs.Pieces.{piece_of};
 ghost use Rattle.roc_report.specs.Checked as line;

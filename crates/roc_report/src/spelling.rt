@@ -1,5 +1,5 @@
 //! Numbers, ids and entries, digit by digit: most of a report is these, and a format string is several times as slow.
-ghost use Rattle.std.specs.Prelude.{◌≡◌, ◌∷◌, ◌++◌, OnOk};
+ghost use Rattle.std.specs.Prelude.{◌≡◌, ◌++◌, OnOk};
 ghost use Rattle.std.specs.Fmt.{decimal};
 ghost use Rattle.std.specs.String.{string_bytes};
 ghost use Rattle.roc_base.specs.TxnId.{txn_text};

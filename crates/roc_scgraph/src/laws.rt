@@ -6,7 +6,7 @@ ghost use Rattle.roc_program.specs.declared.piece_id.PieceId.{PieceId};
 ghost use Rattle.roc_conflict.specs.Immediate.{IsImmediate};
 ghost use Rattle.roc_conflict.specs.Contended.{is_contended};
 ghost use Rattle.roc_scgraph.specs.declared.vertex.Vertex.{Vertex};
-ghost use Rattle.roc_scgraph.specs.Graph.{piece_id, are_siblings};
+ghost use Rattle.roc_scgraph.specs.Graph.{are_siblings};
 ghost use Rattle.roc_scgraph.specs.Cycles.{neighbours, first_instance, IsUnreorderable, HasTwoContended};
 
 /// A procedure has an unreorderable cycle through an S-edge of its own exactly where two of its immediate pieces are contended,

@@ -1,6 +1,6 @@
 //! Words that are numbers and names.
 
-ghost use Rattle.std.specs.Prelude.{◌≡◌, ◌≤◌, ◌+◌, ◌-◌, ◌*◌, ◌<◌, ◌^◌, ◌&&◌, ◌||◌, ◌==◌, not, neg_ℤ, pos, nat_le, if◌then◌else◌, Some};
+ghost use Rattle.std.specs.Prelude.{◌≡◌, ◌≤◌, ◌+◌, ◌-◌, ◌*◌, ◌<◌, ◌&&◌, ◌||◌, ◌==◌, neg_ℤ, pos, nat_le, if◌then◌else◌, Some};
 ghost use Rattle.std.specs.Prelude.{None, IfSome};
 ghost use Rattle.std.specs.List.{list_all};
 ghost use Rattle.std.specs.Option.{option_map};

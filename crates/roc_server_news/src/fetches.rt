@@ -1,5 +1,5 @@
 //! Fetches, and what answers them.
-ghost use Rattle.std.specs.Prelude.{◌≡◌, ◌++◌, ◌∷◌, [], map, OnOk, OnErr};
+ghost use Rattle.std.specs.Prelude.{◌∷◌, [], map, OnOk, OnErr};
 ghost use Rattle.roc_msg.specs.Outbox.{HasSent, HoldsSame};
 ghost use Rattle.roc_step.specs.Asking.{known_to, fetch_from};
 ghost use Rattle.roc_step.specs.Carried.{list_with};

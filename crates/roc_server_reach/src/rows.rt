@@ -3,7 +3,7 @@ ghost use Rattle.std.specs.Prelude.{◌≡◌, ◌<◌, ◌≤◌, ◌^◌, ◌|
 ghost use Rattle.std.specs.declared.alloc.Global.{Global as Allocator};
 ghost use Rattle.roc_server_reach.specs.Bits.{bit_at, row_bit, AreReached, AreSameBits, IsColumnCleared, IsPut, IsRowCleared};
 ghost use Rattle.roc_server_reach.specs.Inner.Words.{IsSetOf, IsWithout};
-ghost use Rattle.roc_server_reach.specs.Inner.Rows.{bits_in, words_at, AreRowsWithin, AreSameRows, KeepsWithin};
+ghost use Rattle.roc_server_reach.specs.Inner.Rows.{bits_in, AreRowsWithin, AreSameRows, KeepsWithin};
 
 use crate::words::{
     clear_all, has_common, join_but, next_of, put_bit, set_of, take_out, widen, words_for, zeros,

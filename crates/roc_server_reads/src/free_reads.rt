@@ -1,6 +1,5 @@
 //! Which reads are free: those that no group holds up.
-ghost use Rattle.std.specs.Prelude.{◌≡◌, ◌≤◌, ◌+◌, ◌++◌, [], drop, length, IfOk, IfSome, IsSome, IsTrue, OnOk};
-ghost use Rattle.std.specs.List.{AllByRecursion};
+ghost use Rattle.std.specs.Prelude.{◌≡◌, ◌≤◌, ◌+◌, ◌++◌, [], drop, length, IfOk, OnOk};
 ghost use Rattle.roc_group.specs.GroupRun.{group_uses};
 ghost use Rattle.roc_rows.specs.Store.{Store};
 ghost use Rattle.roc_server_reads.specs.Behind.{AreHolders, IsHolder};

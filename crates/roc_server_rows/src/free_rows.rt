@@ -1,5 +1,5 @@
 //! The free rows, and which of them is taken next.
-ghost use Rattle.std.specs.Prelude.{◌≡◌, ◌<◌, ℕ, true, length};
+ghost use Rattle.std.specs.Prelude.{◌≡◌, ◌<◌, true, length};
 ghost use Rattle.std.specs.Vec.{vec_capacity, vec_len};
 ghost use Rattle.roc_server_rows.specs.Inner.Rows.{IsPlaced};
 ghost use Rattle.roc_server_rows.specs.Rows.{row_in};

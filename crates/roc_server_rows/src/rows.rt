@@ -1,10 +1,8 @@
 //! Rows by number.
-ghost use Rattle.std.specs.Prelude.{◌≡◌, ℕ, ◌<◌, ◌≤◌, ◌+◌, ◌==◌, ◌++◌, [], filter, length, map, not, None, Some, IfOk, IfSome, OnOk, OnErr, MatchOption, option_copied};
+ghost use Rattle.std.specs.Prelude.{◌≡◌, ℕ, ◌<◌, ◌≤◌, ◌+◌, ◌==◌, [], filter, length, map, not, None, Some, IfOk, OnOk, OnErr, option_copied};
 ghost use Rattle.std.specs.Map.{lookup};
 ghost use Rattle.std.specs.List.Sorted.{IsStrictlySortedBy};
 ghost use Rattle.roc_sequence.specs.Places.{is_listed};
-ghost use Rattle.roc_base.specs.declared.id.TxnId.{TxnId as Id};
-ghost use Rattle.roc_base.specs.Edge.{Dependency};
 ghost use Rattle.roc_base.specs.TxnId.{is_txn, txn_cmp};
 ghost use Rattle.roc_depgraph.specs.Deps.{list_of};
 ghost use Rattle.roc_server_rows.specs.Changes.{lists_ended, untold, with_list};

@@ -1,5 +1,5 @@
 //! Children in memory, with starts and waits that fail.
-ghost use Rattle.std.specs.Prelude.{◌≡◌, ◌≢◌};
+ghost use Rattle.std.specs.Prelude.{◌≢◌};
 
 use crate::same::{same, same_items};
 use roc_io::{AllStarted, Child, ChildWait, Spawner, start_all};

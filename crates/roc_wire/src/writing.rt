@@ -1,9 +1,8 @@
 //! Writing a datagram.
-ghost use Rattle.std.specs.Prelude.{◌≡◌, ◌≤◌, ◌<◌, ◌^◌, ◌++◌, length, IfOk, OnOk};
-ghost use Rattle.std.specs.List.{flat_map, All};
-ghost use Rattle.std.specs.Int.{w8, w16, w32, w64, to_be_bytes};
-ghost use Rattle.roc_msg.specs.Msg.{kind_of};
-ghost use Rattle.roc_wire.specs.Spelling.{id_bytes, shard_bytes, num_bytes, nums_bytes, versions_bytes, tags_of, edge_bytes, edges_bytes, fact_bytes, facts_bytes, body};
+ghost use Rattle.std.specs.Prelude.{◌≡◌, ◌<◌, ◌^◌, ◌++◌, length, IfOk, OnOk};
+ghost use Rattle.std.specs.List.{All};
+ghost use Rattle.std.specs.Int.{w8, w16, w32, to_be_bytes};
+ghost use Rattle.roc_wire.specs.Spelling.{id_bytes, shard_bytes, nums_bytes, versions_bytes, tags_of, edge_bytes, edges_bytes, fact_bytes, facts_bytes, body};
 ghost use Rattle.roc_wire.specs.Spelling.{sender_role, sender_number, spelling};
 ghost use Rattle.roc_wire.specs.Fits.{FitsFacts, FitsMsg, IsSpellable};
 

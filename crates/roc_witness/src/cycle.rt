@@ -1,5 +1,5 @@
 //! The test of a cycle.
-ghost use Rattle.std.specs.Prelude.{◌≡◌, ◌↔◌, ◌∷◌, length, IsTrue};
+ghost use Rattle.std.specs.Prelude.{◌≡◌, ◌↔◌, ◌∷◌, IsTrue};
 ghost use Rattle.std.specs.List.{AllByRecursion, list_all, list_any};
 ghost use Rattle.roc_sequence.specs.Places.{NoneTwice};
 ghost use Rattle.roc_program.specs.Pieces.{HasPiece};

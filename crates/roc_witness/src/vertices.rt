@@ -1,5 +1,5 @@
 //! The vertices of the graph.
-ghost use Rattle.std.specs.Prelude.{◌≡◌, ◌++◌, ◌<◌, length, IfOk, OnOk};
+ghost use Rattle.std.specs.Prelude.{◌≡◌, ◌++◌, ◌<◌, IfOk, OnOk};
 ghost use Rattle.std.specs.List.{flat_map, range_with_len};
 ghost use Rattle.roc_witness.specs.Inner.Vertices.{instances_of, vertices, is_open, open_vertices};
 

@@ -2,7 +2,7 @@
 //!
 //! By levels: the vertices that lead to the goal, those that lead to one of these, and so on. So a walk of so many vertices is
 //! found by going down from its level, each time to the least vertex there that can be reached, and never back.
-ghost use Rattle.std.specs.Prelude.{◌≡◌, ◌<◌, ◌+◌, find, length, false, slice_index_or, IsTrue, IfOk, OnOk, MatchOption};
+ghost use Rattle.std.specs.Prelude.{◌≡◌, ◌<◌, ◌+◌, find, length, false, IsTrue, IfOk, OnOk, MatchOption};
 ghost use Rattle.std.specs.List.{list_any};
 ghost use Rattle.std.specs.Option.{option_copied};
 ghost use Rattle.roc_sequence.specs.Rising.{IsRising};

@@ -1,5 +1,5 @@
 //! The messages that were sent, the file of each, and which of them were never delivered.
-ghost use Rattle.std.specs.Prelude.{◌≡◌, ◌+◌, ◌-◌, ◌<◌, ◌≤◌, ◌==◌, not, Some, nat_lt, [], ◌∷◌, ◌++◌, length, map, filter, slice_get, OnOk};
+ghost use Rattle.std.specs.Prelude.{◌≡◌, ◌+◌, ◌-◌, ◌<◌, ◌≤◌, ◌==◌, not, Some, [], ◌∷◌, ◌++◌, length, map, filter, slice_get, OnOk};
 ghost use Rattle.std.specs.List.{range_with_len};
 ghost use Rattle.roc_two_files.specs.Sealed.{sealed_by, numbers_behind, Sealed};
 ghost use Rattle.roc_growth.specs.Quiet.{messages_of};
