@@ -10,8 +10,7 @@ use roc_component::rising;
 use roc_sequence::Sequence;
 use std::alloc::Global;
 
-// The groups as they are once the list of a transaction is known for which these are missing: it is in one of them too, and of no two
-// is the same missing.
+// The groups as they are once the list of a transaction is known for which these are missing: it is in one of them too.
 pub(crate) fn grown(
     alloc: Global,
     mut groups: Vec<Group>,

@@ -8,9 +8,10 @@
 //! [`Waits::reserve`] need any, and none where `spare` suffices; each of the first two takes at most one of it.
 //!
 //! [`Lacks`] keeps the transactions whose lists are known and that are not decided, each with the ids that are missing
-//! for it (`specs/Lacks.antt`). The layers above may rely on this: [`Lacks::learnt`] takes in the lists that were
-//! learnt last (`specs/Learning.antt`), gives exactly the transactions that they decide, rising, and leaves all as it
-//! was if memory is wanting. [`Lacks::ready`] finds the same and changes nothing, and then [`Lacks::take`] cannot fail.
+//! for it (`specs/Lacks.antt`). No server stands on `Lacks`: what lists decide is found by marks (`roc_server_table`).
+//! The layers above may rely on this: [`Lacks::learnt`] takes in the lists that were learnt last
+//! (`specs/Learning.antt`), gives exactly the transactions that they decide, rising, and leaves all as it was if memory
+//! is wanting. [`Lacks::ready`] finds the same and changes nothing, and then [`Lacks::take`] cannot fail.
 //! [`Lacks::without`] finds what is decided and lacking once the entries that name some transactions of unknown lists
 //! are left out (`specs/Released.antt`); it looks at no list.
 //! [`Lacks::missing`] is how many ids are missing for a transaction whose list is known, as many as its closure names,

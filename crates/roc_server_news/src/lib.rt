@@ -6,7 +6,8 @@
 //! `roc_step`). Of who asks: [`tell_all`], [`send_known`], [`all_edges`], [`wait_for`] and [`send_fetches`] tell lists, note who waits for what, and ask
 //! (`specs/Asking.antt` of `roc_step`). [`facts_for`] gives the known lists that travel along (`specs/Piggyback.antt` of `roc_step`).
 //!
-//! Of the outbox nothing is promised where a call finds no memory, nor of who waits where there was no room ahead.
+//! Where a call finds no memory, [`send_known`] alone promises that the outbox stays, and of who waits nothing is promised where there was no room
+//! ahead.
 #![tactic(auto)]
 
 mod askers;

@@ -12,7 +12,7 @@ use roc_server_table::ListTable;
 use std::alloc::Global;
 
 /// The known lists of what entries lead to over what is followed, by id rising, as many as travel along with a message. They are told as
-/// they were learnt. `NoMemory` comes where there is none for them.
+/// they were learnt.
 pub fn facts_for(alloc: Global, table: &ListTable, edges: &[Edge]) -> Result<Facts, NoMemory>
     ensures { IfOk result (AreFactsFor table.now.known table.now.links edges.now) }
 {

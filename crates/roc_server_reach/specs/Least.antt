@@ -3,7 +3,7 @@ use Rattle.std.specs.Prelude.{◌≡◌, ℕ, List, take}
 use Rattle.roc_base.specs.declared.id.TxnId.{TxnId}
 use Rattle.roc_depgraph.specs.Closure.{IsRisingListOf}
 
--- how many are the least
+-- how many are the least: as many as lists travel along with a message
 abbrev pub most_least_ids : ℕ
 most_least_ids = 16
 

@@ -42,7 +42,7 @@ impl BitRows {
 
     /// Gives a row the bits of these numbers and no others. It takes a bit for each number up to the greatest of them, and an empty row for
     /// each number up to its own. Where it names a number whose column was cleared since all rows were last looked at, it looks at each row once, and
-    /// else at its own alone.
+    /// else at its own alone. `NoMemory` comes where there is none for these bits and rows, and leaves all bits as they were.
     pub fn put(&mut self, at: usize, names: &[usize]) -> Result<(), NoMemory>
         ensures ok { OnOk result (IsPut at names.now self.old self.new) }
         ensures err { OnErr result (AreSameBits self.old self.new) }
@@ -72,7 +72,8 @@ impl BitRows {
         clear_column(&mut self.stale, at);
     }
 
-    /// What these numbers lead to by chains of bits, they themselves among them. The order tells nothing.
+    /// What these numbers lead to by chains of bits, they themselves among them. The order tells nothing. `NoMemory` comes where there
+    /// is none for these numbers and two sets as wide as the rows.
     pub fn reached(&self, from: &[usize]) -> Result<Vec<usize>, NoMemory>
         ensures { IfOk result (λ ns. AreReached self.now from.now ns.items) }
     {

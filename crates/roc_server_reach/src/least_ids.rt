@@ -11,7 +11,7 @@ use std::alloc::Global;
 /// How many are the least.
 const MOST_LEAST: usize = 16;
 
-/// The least of these, sixteen at most, rising; each once, however often it is there.
+/// The least of these, sixteen at most, rising; each once, however often it is there. `NoMemory` comes where there is none for them.
 pub fn least(alloc: Global, met: &[TxnId]) -> Result<Vec<TxnId>, NoMemory>
     ensures { IfOk result (λ ids. AreLeastIds (IsListed is_txn met.now) ids.items) }
 {

@@ -17,9 +17,11 @@ no_link = record { at = 0; birth = 0 }
 abbrev pub link_but : Option ℕ → Link → Link
 link_but except l = if is_except except l.at then no_link else l
 
+-- the row with its links to that row done
 abbrev pub row_but : Option ℕ → Row → Row
 row_but except r = record { id = r.id; birth = r.birth; turn = r.turn; edges = r.edges; names = map (link_but except) r.names; next = r.next }
 
+-- all rows so
 abbrev pub rows_but : Option ℕ → List Row → List Row
 rows_but except rows = map (row_but except) rows
 

@@ -42,7 +42,7 @@ pub record IsOpen (rows : List Row) (marks : List Mark) (n : ℕ) : Type 0 where
   pub told : is_told (row_in rows n) ≡ true
   pub undecided : (mark_in marks n).decided ≡ false
 
--- the same as a test
+-- the same as a test, where each row has a mark
 abbrev pub is_open : List Row → List Mark → ℕ → Bool
 is_open rows marks n = not (mark_in marks n).decided && is_told (row_in rows n)
 

@@ -46,18 +46,23 @@ abbrev pub rows_in_turn : List Row → List Row
 rows_in_turn [] = []
 rows_in_turn (r ∷ rs) = if is_told r then put_row r (rows_in_turn rs) else rows_in_turn rs
 
+-- its list as it came
 abbrev pub known_in : Row → KnownList
 known_in r = list_with r.id r.edges
 
+-- what is followed of it
 abbrev pub links_in : List Row → Row → KnownList
 links_in rows r = list_with r.id (followed rows r.edges r.names)
 
+-- the lists of all rows, in the order in which they came
 abbrev pub known_of : List Row → List KnownList
 known_of rows = map known_in (rows_in_turn rows)
 
+-- what is followed of them, in the same order
 abbrev pub row_links : List Row → List KnownList
 row_links rows = map (links_in rows) (rows_in_turn rows)
 
+-- both
 abbrev pub lists_by : List Row → RowLists
 lists_by rows = record { known = known_of rows; links = row_links rows }
 
@@ -90,6 +95,7 @@ pub record IsRowTable (numbers : List (TxnId × ℕ)) (rows : List Row) (stamp :
   pub turns : (n : ℕ) → (row_in rows n).turn < stamp
   pub names : (n : ℕ) → AreNamed rows stamp (row_in rows n).edges (row_in rows n).names
 
+-- so it is of the rows, the numbers and the stamp of these
 abbrev pub AreWhole : Parts → Type 0
 AreWhole p = IsRowTable p.numbers.entries p.rows.items p.stamp
 

@@ -10,8 +10,8 @@ use crate::rows::Row;
 const END: usize = usize::MAX;
 
 /// The first rows of two chains of free rows, which go on by `next` of a row. Rows are taken from the one, and a row that ends comes to the other,
-/// which takes its place once it is empty and a quarter of all rows have ended. So numbers come back many at once, and rows are a third more than
-/// were ever taken, at most. Nothing is assumed of a chain: a row is taken only where it is free.
+/// which takes its place once it is empty and a quarter of all rows have ended. So numbers come back many at once, and there are at most a third more
+/// rows than were ever in use at one time. Nothing is assumed of a chain: a row is taken only where it is free.
 #[derive(Clone, Copy)]
 pub struct FreeRows {
     pub next: usize,

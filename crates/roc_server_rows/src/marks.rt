@@ -13,7 +13,7 @@ use crate::rows::{Link, Row};
 use roc_base::NoMemory;
 use std::alloc::Global;
 
-/// Whether a row is decided, and else what without a list it leads to. A birth of 0 is of nothing: it is decided or in question.
+/// Whether a row is decided, and else what without a list it leads to. A birth of 0 is of nothing: it is decided, in question or without a list.
 #[derive(Clone, Copy)]
 pub struct Mark {
     pub decided: bool,
@@ -264,8 +264,8 @@ fn decided_among(
 }
 
 /// Finds what is decided and was not marked so, where links to the row `except` are not followed. Marks at what the others wait, which is right
-/// where all links are followed, too. Takes no more turns over the rows in question than rows come to wait. `NoMemory` comes where there is none
-/// for the numbers of these rows.
+/// where all links are followed, too. Takes at most one turn more over the rows in question than rows come to wait. `NoMemory` comes where there is
+/// none for the numbers of these rows.
 pub fn newly(
     alloc: Global,
     rows: &[Row],

@@ -87,7 +87,7 @@ pub fn id_at(rows: &[Row], at: usize) -> TxnId
     }
 }
 
-/// The transactions of rows, in the order of these numbers.
+/// The transactions of rows, in the order of these numbers. `NoMemory` comes where there is none for them.
 pub fn ids_at(alloc: Global, rows: &[Row], numbers: &[usize]) -> Result<Vec<TxnId>, NoMemory>
     ensures { IfOk result (λ ids. ids.items ≡ map (λ n. (row_in rows.now n).id) numbers.now) }
 {
@@ -98,7 +98,7 @@ pub fn ids_at(alloc: Global, rows: &[Row], numbers: &[usize]) -> Result<Vec<TxnI
     Ok(ids)
 }
 
-// The row of a transaction, with the birth of what it names; one is made where it has none.
+// The link to the row of a transaction; one is made where it has none.
 fn link_to(parts: &mut Parts, id: TxnId) -> Result<Link, NoMemory>
     requires whole { AreWhole parts.old }
     ensures whole { AreWhole parts.new }
@@ -210,7 +210,8 @@ fn link_of(parts: &mut Parts, id: TxnId, done: &[TxnId]) -> Result<Link, NoMemor
 }
 
 /// Learns a list of a transaction of which none is known, behind the others: the number of its row. Where it has none, and where what an entry names
-/// has none, one is made. Entries that name one of `done`, which rise, get a link of nothing. `NoMemory` leaves rows that were made, without lists.
+/// has none, one is made. Entries that name one of `done`, which rise, get a link of nothing. `NoMemory` comes also where no birth or turn is left below
+/// 2^64 - 1. It leaves rows that were made, without lists.
 pub fn learn(parts: &mut Parts, id: TxnId, edges: Edges, done: &[TxnId]) -> Result<usize, NoMemory>
     requires whole { AreWhole parts.old }
     requires unknown { list_of id (known_of parts.old.rows.items) ≡ None }

@@ -4,8 +4,8 @@
 //! Rows and marks, and how single ones change, are those of `roc_server_rows`.
 //!
 //! Contracts see a [`ListTable`] as `TableLists` (`specs/Kept.antt`): the lists as they came and what is followed of each, both in the order in which
-//! they came, and the transactions that are marked as decided, of which membership alone is promised. What is new, what is followed and in which
-//! components transactions are taken are the words of `roc_step` and `roc_component`.
+//! they came, and the transactions that are marked as decided, by id rising, each once. What is new, what is followed and in which components
+//! transactions are taken are the words of `roc_step` and `roc_component`.
 //!
 //! The layers above may rely on this. Lists come behind the others, all or none ([`ListTable::learn`]), and are taken back without memory
 //! ([`ListTable::unlearn`]): of lists that were learnt last, those are left that were known before (`proofs/Unlearnt.antt`).

@@ -85,8 +85,9 @@ impl ListTable {
         least_naming(&self.parts.rows, id, at)
     }
 
-    /// Learns lists, each of a transaction of which none is known then. The entries that name one of `done`, which rise, are not followed. `NoMemory`
-    /// leaves the table as it was. Of the lists that are known it looks at those alone that are not decided.
+    /// Learns lists, each of a transaction of which none is known then. The entries that name one of `done`, which rise, are not followed. `NoMemory`,
+    /// which comes also where births and turns are used up, leaves the table as it was. Of the lists that are known it looks at those alone that are not
+    /// decided, and once at the bits of all rows where it names a row whose bits are stale (`BitRows::put`).
     pub fn learn(&mut self, news: &[KnownList], done: &[TxnId]) -> Result<(), NoMemory>
         requires learnable { AreLearnable self.old.known news.now }
         requires rising { IsStrictlySortedBy txn_cmp done.now }
@@ -110,7 +111,8 @@ impl ListTable {
     }
 
     /// What is decided by what is followed and is not marked so, each once, in any order. It looks at the lists alone that are not decided, and at the
-    /// entries alone of those that are not known to wait for others. The lists and what is marked as decided stay, whether there is memory or not.
+    /// entries alone of those that are not known to wait for others. The lists and what is marked as decided stay, whether there is memory or not:
+    /// `NoMemory` comes where there is none for what it looks at and for what is decided.
     pub fn newly(&mut self) -> Result<Vec<TxnId>, NoMemory>
         ensures same { self.new ≡ self.old }
         ensures new { IfOk result (λ ids. AreAllNew (IsListed is_txn self.old.decided) self.old.links ids.items) }
@@ -119,7 +121,7 @@ impl ListTable {
         new_ids(&self.parts, &mut self.marks, None)
     }
 
-    /// The same where entries that name one transaction are not followed, as after [`ListTable::settle`].
+    /// The same where entries that name one transaction are not followed, as after [`ListTable::settle`]. `NoMemory` comes where it does there.
     pub fn newly_without(&mut self, id: TxnId) -> Result<Vec<TxnId>, NoMemory>
         ensures same { self.new ≡ self.old }
         ensures new { IfOk result (λ ids. AreAllNew (IsListed is_txn self.old.decided) (map (without_links (λ t. is_txn t id)) self.old.links) ids.items) }
@@ -129,7 +131,7 @@ impl ListTable {
     }
 
     /// The components of transactions in the order in which they are taken, by what is followed of their lists. `NoMemory` comes where there is
-    /// none for these.
+    /// none for these and for what is followed among the transactions.
     pub fn components(&self, ids: &[TxnId]) -> Result<Vec<Sequence<TxnId>>, NoMemory>
         ensures { IfOk result (λ components. AreTaken self.now.links ids.now components.items) }
     {
@@ -144,7 +146,7 @@ impl ListTable {
         )
     }
 
-    /// The same where entries that name one transaction are not followed, as after [`ListTable::settle`].
+    /// The same where entries that name one transaction are not followed, as after [`ListTable::settle`]. `NoMemory` comes where it does there.
     pub fn components_without(
         &self,
         id: TxnId,
@@ -185,8 +187,10 @@ impl ListTable {
     {
         end_all(&mut self.parts, &mut self.marks, &mut self.bits, ids);
     }
+
     /// The transactions with known lists to which entries lead by what is followed: the sixteen least of them by id. What it costs grows with how
-    /// many these are, and not with how many entries their lists have.
+    /// many transactions entries lead to and with the greatest number of a row, not with how many entries their lists have. `NoMemory` comes where
+    /// there is none for these.
     pub fn led_to(&self, edges: &[Edge]) -> Result<Vec<TxnId>, NoMemory>
         ensures { IfOk result (λ ids. AreLeastIds (IsKnownAndLedTo self.now.links edges.now) ids.items) }
     {
