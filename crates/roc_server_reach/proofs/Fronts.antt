@@ -10,7 +10,8 @@ use Rattle.roc_base.specs.TxnId.{is_txn, txn_cmp, txn_lt}
 use Rattle.roc_base.proofs.Ids.{txn_lt-itself, txn_lt-asym, none_rise}
 use Rattle.roc_depgraph.proofs.RisingLists.{none_listed}
 use Rattle.roc_server_reach.specs.Least.{most_least_ids, AreLeastIds}
-use Rattle.roc_server_reach.proofs.Put.{rises, first_before, rest_rises, first_or_rest, in_first, in_rest, has_rising}
+use Rattle.roc_server_reach.proofs.Rises.{rises, first_before, rest_rises, first_or_rest, in_first, in_rest}
+use Rattle.roc_server_reach.proofs.Put.{has_rising}
 
 -- n of xs come before u
 pub record HasBefore (n : ℕ) (xs : List TxnId) (u : TxnId) : Type 0 where
@@ -173,4 +174,5 @@ least_met P met ids m l =
             | inl h ↦ inl (l.rising.complete u h)
             | inr b ↦ inr (before_more most_least_ids met l.all u l.rising.complete b)
           ]));
+      rises = l.rises;
     }

@@ -9,4 +9,5 @@ least_same P Q to from ids l =
       all = l.all;
       rising = record { rising = l.rising.rising; sound = λ t h. to t (l.rising.sound t h); complete = λ t h. l.rising.complete t (from t h) };
       first = l.first;
+      rises = l.rises;
     }

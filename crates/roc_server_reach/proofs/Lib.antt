@@ -4,7 +4,8 @@ mod StaleBits
 mod RowWords
 mod Searches
 pub mod Chains
+pub mod Rises
 mod Put
-pub mod Fronts
+mod Fronts
 mod TakenIn
 pub mod LeastOf

@@ -20,7 +20,7 @@ use Rattle.roc_depgraph.proofs.Listed.{listed_one, in_one}
 use Rattle.roc_depgraph.proofs.RisingLists.{none_listed}
 use Rattle.roc_depgraph.proofs.Searched.{none, listed_there, stands_at, ids_sorted}
 use Rattle.roc_server_reach.specs.Least.{most_least_ids, AreLeastIds}
-use Rattle.roc_server_reach.proofs.Put.{rises, first_before, rest_rises, first_or_rest, in_first, in_rest}
+use Rattle.roc_server_reach.proofs.Rises.{rises, first_before, rest_rises, first_or_rest, in_first, in_rest}
 use Rattle.roc_server_reach.proofs.Fronts.{CoversLeast, before_more, listed_taken, taken_rises, near_front, least_met}
 
 module _ (x : TxnId) where
@@ -112,12 +112,9 @@ module _ (xs ids : List TxnId) (id : TxnId) (l : AreLeastIds (IsListed is_txn xs
         ];
       }
 
-  ids_rise : IsStrictlySortedBy txn_cmp ids
-  ids_rise = subst (IsStrictlySortedBy txn_cmp) (sym l.first) (taken_rises most_least_ids l.all l.rising.rising)
-
   module _ (at : ℕ) (within : at ≤ length ids) (said : SaysPlace ids id at) where
     place : IsPlace id ids at
-    place = said (searchable_from_sorted txn_cmp-total (λ y. y) ids id (ids_sorted ids id ids_rise))
+    place = said (searchable_from_sorted txn_cmp-total (λ y. y) ids id (ids_sorted ids id l.rises))
 
     pub taken_in : AreLeastIds (IsListed is_txn (xs ++ id ∷ [])) (take most_least_ids (insert ids at id))
     taken_in =
@@ -125,7 +122,7 @@ module _ (xs ids : List TxnId) (id : TxnId) (l : AreLeastIds (IsListed is_txn xs
         (record {
           all = insert ids at id;
           rising = record {
-            rising = inserted_rises id ids at within ids_rise place;
+            rising = inserted_rises id ids at within l.rises place;
             sound = λ u k. elim (inserted_only id ids at within u k) [
               | inl e ↦ listed_behind is_txn ids (id ∷ []) u (subst (IsListed is_txn (id ∷ [])) (sym e) (in_one id))
               | inr m ↦ listed_front is_txn ids (id ∷ []) u m
@@ -136,6 +133,7 @@ module _ (xs ids : List TxnId) (id : TxnId) (l : AreLeastIds (IsListed is_txn xs
             ];
           };
           first = refl;
+          rises = taken_rises most_least_ids (insert ids at id) (inserted_rises id ids at within l.rises place);
         })
 
     pub passed : most_least_ids ≤ at → AreLeastIds (IsListed is_txn (xs ++ id ∷ [])) ids
@@ -150,7 +148,7 @@ module _ (xs ids : List TxnId) (id : TxnId) (l : AreLeastIds (IsListed is_txn xs
     all_lower k d h =
         elim (cases_lt k 15) [
           | inl low ↦
-              txn_lt-trans (get_or ids k d) (get_or ids 15 d) id (lt_from_less id (get_or ids k d) (get_or ids 15 d) (Less-from_sorted txn_cmp ids k 15 d ids_rise low long)) (last_lower d)
+              txn_lt-trans (get_or ids k d) (get_or ids 15 d) id (lt_from_less id (get_or ids k d) (get_or ids 15 d) (Less-from_sorted txn_cmp ids k 15 d l.rises low long)) (last_lower d)
           | inr high ↦ (let e : 15 ≡ k = (let f = few in omega arith) in subst (λ i. txn_lt (get_or ids i d) id ≡ true) e (last_lower d))
         ]
 
@@ -173,6 +171,7 @@ module _ (xs ids : List TxnId) (id : TxnId) (l : AreLeastIds (IsListed is_txn xs
           ];
         };
         first = l.first;
+        rises = l.rises;
       }
 
   pub found_in : (at : ℕ) → at < length ids → ((d : TxnId) → txn_cmp (get_or ids at d) id ≡ Equal) → AreLeastIds (IsListed is_txn (xs ++ id ∷ [])) ids
@@ -180,4 +179,4 @@ module _ (xs ids : List TxnId) (id : TxnId) (l : AreLeastIds (IsListed is_txn xs
 
 -- of nothing
 pub none_least : AreLeastIds (IsListed is_txn []) []
-none_least = record { all = []; rising = record { rising = none_rise; sound = λ u k. k; complete = λ u k. k }; first = refl }
+none_least = record { all = []; rising = record { rising = none_rise; sound = λ u k. k; complete = λ u k. k }; first = refl; rises = none_rise }

@@ -2,46 +2,19 @@
 use Rattle.std.proofs.Common.{◌≡◌, ◌&&◌, Bool, true, false, not, if◌then◌else◌, List, [], ◌∷◌, ◌++◌, ◌⊎◌, refl, sym, ap, subst, ◌∙◌, inl, inr}
 use Rattle.std.proofs.lemmas.Bool.{and_parts, false≢true, not-true, not_from_false}
 use Rattle.std.specs.List.Sorted.{IsStrictlySortedBy}
-use Rattle.std.specs.declared.cmp.Ordering.TheVariants.{Less}
-use Rattle.roc_sequence.proofs.Holds.{has_all}
-use Rattle.roc_sequence.proofs.Rising.{less_from_test}
-use Rattle.roc_sequence.proofs.Places.{listed_head, listed_tail, listed_cases}
 use Rattle.roc_sequence.specs.Places.{IsListed, is_listed}
 use Rattle.roc_sequence.proofs.Places.{listed_test, unlisted_test, listed_true, listed_false}
 use Rattle.roc_sequence.proofs.Appended.{listed_front, listed_behind, listed_either}
 use Rattle.roc_base.specs.declared.id.TxnId.{TxnId}
 use Rattle.roc_base.specs.TxnId.{is_txn, txn_cmp, txn_lt}
-use Rattle.roc_base.specs.Equalities.{is_txn-same, is_txn-true}
-use Rattle.roc_base.proofs.Ids.{is_lt-txn_cmp, txn_lt-trans, txn_cases, none_rise}
+use Rattle.roc_base.proofs.Ids.{txn_lt-trans, txn_cases, none_rise}
 use Rattle.roc_depgraph.specs.declared.known.KnownList.{KnownList}
 use Rattle.roc_depgraph.specs.Closure.{IsRisingListOf}
 use Rattle.roc_step.specs.New.{AreAllNew}
-use Rattle.roc_depgraph.proofs.Listed.{has_listed, listed_one, in_one}
-use Rattle.roc_depgraph.proofs.RisingLists.{below, none_listed, rising_one}
+use Rattle.roc_depgraph.proofs.Listed.{listed_one, in_one}
+use Rattle.roc_depgraph.proofs.RisingLists.{none_listed, rising_one}
+use Rattle.roc_server_reach.proofs.Rises.{rises, first_before, rest_rises, first_or_rest, in_first, in_rest}
 use Rattle.roc_server_table.specs.Inner.Rising.{with_id, rising_ids}
-
--- one that comes before all of a rising list, and these
-pub rises : (x : TxnId) (xs : List TxnId) → IsStrictlySortedBy txn_cmp xs → ((u : TxnId) → IsListed is_txn xs u → txn_lt x u ≡ true) → IsStrictlySortedBy txn_cmp (x ∷ xs)
-unfolding IsStrictlySortedBy
-rises x xs r before = (has_all (λ y. txn_cmp x y ≡ Less) xs (λ y h. less_from_test (txn_cmp x y) (is_lt-txn_cmp x y ∙ before y (has_listed xs y h))), r)
-
-first_before : (x : TxnId) (xs : List TxnId) → IsStrictlySortedBy txn_cmp (x ∷ xs) → (u : TxnId) → IsListed is_txn xs u → txn_lt x u ≡ true
-unfolding IsStrictlySortedBy
-first_before x xs r u l = below x u xs r.0 l
-
-rest_rises : (x : TxnId) (xs : List TxnId) → IsStrictlySortedBy txn_cmp (x ∷ xs) → IsStrictlySortedBy txn_cmp xs
-unfolding IsStrictlySortedBy
-rest_rises x xs r = r.1
-
--- a member is the first, or one of the rest
-first_or_rest : (x : TxnId) (xs : List TxnId) (u : TxnId) → IsListed is_txn (x ∷ xs) u → (u ≡ x) ⊎ IsListed is_txn xs u
-first_or_rest x xs u l = elim (listed_cases is_txn x xs u l) [ inl e ↦ inl (is_txn-true u x e) | inr k ↦ inr k.1 ]
-
-in_first : (x : TxnId) (xs : List TxnId) → IsListed is_txn (x ∷ xs) x
-in_first x xs = listed_head is_txn x xs (is_txn-same x)
-
-in_rest : (x : TxnId) (xs : List TxnId) (u : TxnId) → IsListed is_txn xs u → IsListed is_txn (x ∷ xs) u
-in_rest x xs u l = listed_tail is_txn x xs u l
 
 -- ys has one more than xs, and rises
 record IsPut (id : TxnId) (xs ys : List TxnId) : Type 0 where
@@ -173,7 +146,3 @@ order_is_new before known ids new =
 pub no_ids : (xs : List TxnId) → xs ≡ [] → rising_ids xs ≡ []
 unfolding rising_ids
 no_ids xs e = ap rising_ids e
-
--- so each list has a rising one with the same members
-pub some_rising : (xs : List TxnId) → (ys : List TxnId) × IsRisingListOf (IsListed is_txn xs) ys
-some_rising xs = (rising_ids xs, rising_of xs)

@@ -4,15 +4,12 @@ use Rattle.std.specs.List.Sorted.{IsStrictlySortedBy}
 use Rattle.roc_base.specs.TxnId.{txn_cmp}
 use Rattle.roc_depgraph.specs.Deps.{entries_of}
 use Rattle.roc_msg.specs.Facts.{most_facts, most_fact_edges}
-use Rattle.roc_server_reach.proofs.Fronts.{taken_rises}
 use Rattle.roc_step.specs.Piggyback.{facts_of}
 use Rattle.roc_server_news.proofs.ToldFacts.{front_of_front}
 use Rattle.roc_server_news.proofs.told.facts_for.Goals as goal
 
 pub facts_of-requires : goal.facts_of-requires
-facts_of-requires c =
-    let l = c.in_ok-least.ensures in
-    subst (IsStrictlySortedBy txn_cmp) (sym (c.deref.ensures.value ∙ l.first)) (taken_rises most_facts l.all l.rising.rising)
+facts_of-requires c = subst (IsStrictlySortedBy txn_cmp) (sym c.deref.ensures.value) c.in_ok-least.ensures.rises
 
 pub returns : goal.returns
 returns c =
