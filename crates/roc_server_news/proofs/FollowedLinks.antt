@@ -1,13 +1,12 @@
 -- What is followed of lists is kept as lists are learnt, marked and forgotten, and what is known of it
-use Rattle.std.proofs.Common.{◌≡◌, Bool, true, false, cond, not, List, [], ◌∷◌, ◌++◌, map, filter, Some, unwrap_or, refl, sym, ap, ◌∙◌, inl, inr}
+use Rattle.std.proofs.Common.{◌≡◌, Bool, true, false, cond, not, List, [], ◌∷◌, ◌++◌, map, filter, refl, sym, ap, ◌∙◌, inl, inr}
 use Rattle.std.proofs.lemmas.Bool.{false≢true, not_from_false}
 use Rattle.roc_sequence.specs.Lists.{Has}
 use Rattle.roc_sequence.proofs.Members.{has_append, has_left, has_right, has_filter, from_has_filter}
 use Rattle.roc_base.specs.declared.id.TxnId.{TxnId}
-use Rattle.roc_base.specs.TxnId.{is_txn}
 use Rattle.roc_base.specs.Edge.{Dependency}
 use Rattle.roc_depgraph.specs.declared.known.KnownList.{KnownList}
-use Rattle.roc_depgraph.specs.Deps.{list_of, is_known, entries_of}
+use Rattle.roc_depgraph.specs.Deps.{is_known}
 use Rattle.roc_step.specs.Learning.{AreLearnable}
 use Rattle.roc_step.specs.Links.{without_links, all_entries, IsLinkOf, AreLinksOf}
 use Rattle.roc_step.proofs.SameIds.{ids_of, ids_without, known_alike, learnable_alike}
@@ -90,41 +89,7 @@ module _ (ended : TxnId → Bool) where
   pub links_learnable : (p : TxnId → Bool) (known links news : List KnownList) → AreLinksOf ended known links → AreLearnable known news → AreLearnable links (map (without_links p) news)
   links_learnable p known links news are = learnable_alike known links news (map (without_links p) news) (links_ids known links are) (ids_without p news)
 
-  -- entries that are followed are entries of the lists, and those that name no ended one are followed
-  pub link_entry : (known links : List KnownList) → AreLinksOf ended known links → (t : TxnId) (d : Dependency) → Has d (entries_of links t) → Has d (entries_of known t)
-  link_entry [] [] are t d h = h
-  link_entry [] (l ∷ ls) are t d h = absurd are
-  link_entry (k ∷ ks) [] are t d h = absurd are
-  link_entry (k ∷ ks) (l ∷ ls) are t d h = go (is_txn k.of t) (is_txn l.of t) (ap (λ (v : TxnId). is_txn v t) are.0.of) h (link_entry ks ls are.1 t d)
-    where
-      go : (b c : Bool) → c ≡ b → Has d (unwrap_or (cond c (Some l.edges) (list_of t ls)) []) → (Has d (entries_of ls t) → Has d (entries_of ks t)) → Has d (unwrap_or (cond b (Some k.edges) (list_of t ks)) [])
-      go true true e m ih = are.0.within d m
-      go true false e m ih = absurd (false≢true e)
-      go false true e m ih = absurd (false≢true (sym e))
-      go false false e m ih = ih m
-
-  pub entry_followed : (known links : List KnownList) → AreLinksOf ended known links → (t : TxnId) (d : Dependency) → Has d (entries_of known t) → ended d.from ≡ false → Has d (entries_of links t)
-  entry_followed [] [] are t d h n = h
-  entry_followed [] (l ∷ ls) are t d h n = absurd are
-  entry_followed (k ∷ ks) [] are t d h n = absurd are
-  entry_followed (k ∷ ks) (l ∷ ls) are t d h n = go (is_txn k.of t) (is_txn l.of t) (ap (λ (v : TxnId). is_txn v t) are.0.of) h (λ m. entry_followed ks ls are.1 t d m n)
-    where
-      go : (b c : Bool) → c ≡ b → Has d (unwrap_or (cond b (Some k.edges) (list_of t ks)) []) → (Has d (entries_of ks t) → Has d (entries_of ls t)) → Has d (unwrap_or (cond c (Some l.edges) (list_of t ls)) [])
-      go true true e m ih = are.0.followed d m n
-      go true false e m ih = absurd (false≢true e)
-      go false true e m ih = absurd (false≢true (sym e))
-      go false false e m ih = ih m
-
-  pub link_among_all : (known links : List KnownList) → AreLinksOf ended known links → (d : Dependency) → Has d (all_entries links) → Has d (all_entries known)
-  link_among_all [] [] are d h = h
-  link_among_all [] (l ∷ ls) are d h = absurd are
-  link_among_all (k ∷ ks) [] are d h = absurd are
-  link_among_all (k ∷ ks) (l ∷ ls) are d h =
-      elim (has_append d l.edges (all_entries ls) h) [
-        | inl m ↦ has_left d k.edges (all_entries ks) (are.0.within d m)
-        | inr m ↦ has_right d k.edges (all_entries ks) (link_among_all ks ls are.1 d m)
-      ]
-
+  -- entries that name no ended one are followed
   pub followed_among_all : (known links : List KnownList) → AreLinksOf ended known links → (d : Dependency) → Has d (all_entries known) → ended d.from ≡ false → Has d (all_entries links)
   followed_among_all [] [] are d h n = h
   followed_among_all [] (l ∷ ls) are d h n = absurd are

@@ -84,6 +84,3 @@ unknown_learnable known xs r = learnable known (unknown_of known xs) (all_unknow
 
 pub carried_learnable : (known : List KnownList) (id : TxnId) (edges : List Dependency) (facts : List KnownList) → AreFacts facts → AreLearnable known (unknown_of known (carried id edges facts))
 carried_learnable known id edges facts r = unknown_learnable known (carried id edges facts) (carried_rising id edges facts r)
-
-pub one_learnable : (known : List KnownList) (k : KnownList) → AreLearnable known (unknown_of known (k ∷ []))
-one_learnable known k = unknown_learnable known (k ∷ []) (tt, tt)

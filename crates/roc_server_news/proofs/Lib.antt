@@ -1,4 +1,3 @@
-pub mod Added
 pub mod FollowedLinks
 pub mod Learnable
 pub mod Learning

@@ -2,7 +2,7 @@
 use Rattle.std.proofs.Common.{◌≡◌, ℕ, zero, suc, ◌<◌, ◌≤◌, ◌+◌, ◌-◌, true, nat_le, cond, List, [], ◌∷◌, ◌++◌, length, map, get_or, take, drop, IsTrue, refl, sym, ap, subst, ◌∙◌, arith}
 use Rattle.std.proofs.lemmas.Bool.{and_from}
 use Rattle.std.proofs.lemmas.List.Folds.{list_all-append}
-use Rattle.std.proofs.lemmas.List.{drop_more, drop_all}
+use Rattle.std.proofs.lemmas.List.{drop_more}
 use Rattle.std.specs.List.{AllByRecursion}
 use Rattle.std.specs.List.Sorted.{IsStrictlySortedBy}
 use Rattle.std.specs.Ordering.{is_lt}
@@ -12,22 +12,18 @@ use Rattle.roc_base.specs.TxnId.{txn_lt, txn_cmp}
 use Rattle.roc_base.proofs.Ids.{is_lt-txn_cmp}
 use Rattle.roc_depgraph.specs.declared.known.KnownList.{KnownList}
 use Rattle.roc_msg.specs.Facts.{front_of_facts, is_behind_facts}
-use Rattle.roc_msg.proofs.FactFronts.{front_nothing, front_too_long, front_more}
+use Rattle.roc_msg.proofs.FactFronts.{front_too_long, front_more}
 
--- of what is made of the ids that are left: the list of the next is too long, or travels along, or there is none
-module _ (f : TxnId → KnownList) (all : List TxnId) (i : ℕ) (room left : ℕ) where
-  module _ (x none : TxnId) (within : i < length all) (is : x ≡ get_or all i none) where
-    next_is : map f (drop i all) ≡ f x ∷ map f (drop (i + 1) all)
-    next_is = ap (map f) (drop_more all i none within ∙ ap (λ y. y ∷ drop (i + 1) all) (sym is))
+-- of what is made of the ids that are left: the list of the next is too long, or travels along
+module _ (f : TxnId → KnownList) (all : List TxnId) (i : ℕ) (room left : ℕ) (x none : TxnId) (within : i < length all) (is : x ≡ get_or all i none) where
+  next_is : map f (drop i all) ≡ f x ∷ map f (drop (i + 1) all)
+  next_is = ap (map f) (drop_more all i none within ∙ ap (λ y. y ∷ drop (i + 1) all) (sym is))
 
-    pub stops : left < length (f x).edges → front_of_facts room left (map f (drop i all)) ≡ []
-    stops h = ap (front_of_facts room left) next_is ∙ front_too_long room left (f x) (map f (drop (i + 1) all)) h
+  pub stops : left < length (f x).edges → front_of_facts room left (map f (drop i all)) ≡ []
+  stops h = ap (front_of_facts room left) next_is ∙ front_too_long room left (f x) (map f (drop (i + 1) all)) h
 
-    pub goes_on : 0 < room → length (f x).edges ≤ left → front_of_facts room left (map f (drop i all)) ≡ f x ∷ front_of_facts (room - 1) (left - length (f x).edges) (map f (drop (i + 1) all))
-    goes_on h k = ap (front_of_facts room left) next_is ∙ front_more room left (f x) (map f (drop (i + 1) all)) h k
-
-  pub ends : length all ≤ i → front_of_facts room left (map f (drop i all)) ≡ []
-  ends h = ap (λ xs. front_of_facts room left (map f xs)) (drop_all i all h) ∙ front_nothing room left
+  pub goes_on : 0 < room → length (f x).edges ≤ left → front_of_facts room left (map f (drop i all)) ≡ f x ∷ front_of_facts (room - 1) (left - length (f x).edges) (map f (drop (i + 1) all))
+  goes_on h k = ap (front_of_facts room left) next_is ∙ front_more room left (f x) (map f (drop (i + 1) all)) h k
 
 -- all of what is left comes behind what was taken
 abbrev pub AreBehind : List KnownList → List TxnId → Type 0
@@ -63,9 +59,6 @@ next_before all i x none r h e =
 
 pub behind_rest : (taken : List KnownList) (all : List TxnId) (i : ℕ) (none : TxnId) → i < length all → AreBehind taken (drop i all) → AreBehind taken (drop (i + 1) all)
 behind_rest taken all i none h k = (subst (AreBehind taken) (drop_more all i none h) k).1
-
-pub behind_next : (taken : List KnownList) (all : List TxnId) (i : ℕ) (x none : TxnId) → i < length all → x ≡ get_or all i none → AreBehind taken (drop i all) → IsTrue (is_behind_facts taken x)
-behind_next taken all i x none h e k = subst (λ (v : TxnId). IsTrue (is_behind_facts taken v)) (sym e) (subst (AreBehind taken) (drop_more all i none h) k).0
 
 -- of a list no more travels along than of its front
 pub front_of_front : (f : TxnId → KnownList) (room left : ℕ) (xs : List TxnId) → front_of_facts room left (map f (take room xs)) ≡ front_of_facts room left (map f xs)

@@ -11,7 +11,7 @@ use Rattle.roc_server_rows.specs.Rows.{row_in, is_alive, is_told}
 use Rattle.roc_server_rows.specs.Except.{is_except, link_but, rows_but}
 use Rattle.roc_server_rows.specs.Inner.Marks.{IsHeldBy, IsHeldThrough, WakesFor}
 use Rattle.roc_server_rows.specs.Marks.{mark_in, at_end, by_link, AreMarked, AreSameDecided, RowLeads, WaitsOn, WakesAll}
-use Rattle.roc_server_rows.proofs.Alive.{row_within, alive_born, alive_live}
+use Rattle.roc_server_rows.proofs.Alive.{alive_born}
 use Rattle.roc_server_rows.proofs.Waits.{free_links_more, held_none, held_one, through_told, through_untold, AreFreeLinks}
 use Rattle.roc_server_rows.proofs.Excepted.{row_at_but, told_but, alive_but, but_alive, has_but, but_has}
 
@@ -102,11 +102,6 @@ module _ (except : Option ℕ) (rows : List Row) where
       }
 
   -- ---- what one link leads to
-
-  pub but_within : (l : Link) → is_alive rows (link_but except l) ≡ true → l.at < length rows
-  but_within l h =
-      let was : is_alive rows l ≡ true = subst (λ (x : Link). is_alive rows x ≡ true) (but_alive except rows l h).1 h in
-      row_within rows l.at (alive_live rows l was)
 
   module _ (marks : List Mark) where
     pub but_through_untold : (l : Link) → is_alive rows (link_but except l) ≡ true → is_told (row_in rows l.at) ≡ false → IsHeldThrough (rows_but except rows) marks (link_but except l) l
