@@ -1,16 +1,17 @@
 -- Rows at their numbers, and links that are alive
-use Rattle.std.proofs.Common.{◌≡◌, ◌≢◌, ◌+◌, ◌<◌, ◌≤◌, ◌==◌, ◌&&◌, ◌⊎◌, inl, inr, ℕ, zero, suc, Bool, true, false, cond, List, [], ◌∷◌, ◌++◌, length, map, refl, sym, ap, ◌∙◌, subst, arith}
+use Rattle.std.proofs.Common.{◌≡◌, ◌≢◌, ◌+◌, ◌<◌, ◌≤◌, ◌==◌, ◌&&◌, inl, inr, ℕ, zero, suc, Bool, true, false, cond, List, [], ◌∷◌, ◌++◌, length, map, refl, sym, ap, ◌∙◌, subst, arith}
 use Rattle.std.proofs.lemmas.Bool.{false≢true}
 use Rattle.std.proofs.lemmas.Bool.Decides.{nat_tests}
 use Rattle.std.proofs.lemmas.List.{get_or-set_same, get_or-set_other, get_or_append_left, get_or_push, get_or_past, length-set, length_push}
 use Rattle.std.specs.Prelude.{nat_lt}
 use Rattle.std.specs.List.{AllByRecursion}
+use Rattle.roc_base.specs.declared.id.TxnId.{TxnId}
 use Rattle.roc_base.specs.Edge.{Dependency}
 use Rattle.roc_server_rows.specs.declared.rows.Link.{Link}
 use Rattle.roc_server_rows.specs.declared.rows.Row.{Row}
 use Rattle.roc_step.specs.Carried.{list_with}
 use Rattle.roc_server_rows.specs.Inner.Rows.{IsPlaced}
-use Rattle.roc_server_rows.specs.Rows.{no_row, row_in, is_alive, is_told, followed, links_in, AreNamed, Grows}
+use Rattle.roc_server_rows.specs.Rows.{no_row, row_in, is_alive, is_told, followed, links_in, AreNamed, Grows, IsRowTable}
 
 -- ---- rows at their numbers
 
@@ -20,14 +21,12 @@ row_within [] n h = absurd (omega (arith, h))
 row_within (r ∷ rs) zero h = omega arith
 row_within (r ∷ rs) (suc n) h = omega (arith, row_within rs n h)
 
-same_number : (m n : ℕ) → (m ≡ n) ⊎ (m ≢ n)
-same_number zero zero = inl refl
-same_number zero (suc n) = inr (λ e. omega arith)
-same_number (suc m) zero = inr (λ e. omega arith)
-same_number (suc m) (suc n) = elim (same_number m n) [ inl e ↦ inl (ap suc e) | inr d ↦ inr (λ e. d (omega arith)) ]
+-- what has a list has a turn, and is there
+told_turn : (r : Row) → is_told r ≡ true → 0 < r.turn
+told_turn r h = grind (arith, nat_tests)
 
-pub numbers_differ : (m n : ℕ) → (m ≡ n) ⊎ (m ≢ n)
-numbers_differ m n = same_number m n
+pub told_live : (numbers : List (TxnId × ℕ)) (rows : List Row) (stamp : ℕ) → IsRowTable numbers rows stamp → (n : ℕ) → is_told (row_in rows n) ≡ true → 0 < (row_in rows n).birth
+told_live numbers rows stamp t n h = t.told_live n (told_turn (row_in rows n) h)
 
 module _ (old new : List Row) (r : Row) (at : ℕ) where
   pub placed_at : IsPlaced old new r at → row_in new at ≡ r

@@ -1,48 +1,27 @@
 -- Rows and what their links decide
-use Rattle.std.proofs.Common.{◌≡◌, ◌<◌, ◌||◌, ◌⊎◌, inl, inr, ℕ, Bool, true, false, not, cond, List, [], ◌∷◌, map, filter, Option, Some, None, unwrap_or, is_some, refl, sym, ap, ◌∙◌, subst, arith}
+use Rattle.std.proofs.Common.{◌≡◌, ◌<◌, ◌||◌, ◌⊎◌, inl, inr, ℕ, Bool, true, false, not, cond, List, [], ◌∷◌, filter, Option, Some, None, unwrap_or, is_some, refl, sym, ap, ◌∙◌, subst, arith}
 use Rattle.std.proofs.lemmas.Bool.{false≢true}
 use Rattle.std.proofs.lemmas.Bool.Decides.{nat_tests}
 use Rattle.std.specs.Prelude.{nat_lt}
-use Rattle.std.specs.Map.{lookup}
-use Rattle.std.specs.List.{AllByRecursion, list_any}
+use Rattle.std.specs.List.{list_any}
 use Rattle.roc_sequence.specs.Lists.{Has}
 use Rattle.roc_sequence.proofs.Members.{has_filter, from_has_filter}
 use Rattle.roc_sequence.proofs.Holds.{all_has}
 use Rattle.roc_base.specs.declared.id.TxnId.{TxnId}
 use Rattle.roc_base.specs.TxnId.{is_txn}
 use Rattle.roc_base.specs.Equalities.{is_txn-true, is_txn-same}
-use Rattle.roc_base.proofs.Ids.{is_txn-eq}
 use Rattle.roc_base.specs.Edge.{Dependency}
 use Rattle.roc_depgraph.specs.Deps.{list_of, is_known, IsKnown, IsDecided, Precedes}
 use Rattle.roc_depgraph.specs.Reach.{Reaches, direct, through, ReachesOrIs}
 use Rattle.roc_server_rows.specs.declared.rows.Link.{Link}
 use Rattle.roc_server_rows.specs.declared.rows.Row.{Row}
 use Rattle.roc_server_rows.specs.declared.marks.Mark.{Mark}
-use Rattle.roc_step.specs.Carried.{list_with}
-use Rattle.roc_server_rows.specs.Rows.{row_in, followed, rows_in_turn, is_alive, is_told, row_links, AreNamed, IsRowTable}
+use Rattle.roc_server_rows.specs.Rows.{row_in, followed, is_alive, is_told, row_links, AreNamed, IsRowTable}
 use Rattle.roc_server_rows.specs.Inner.Marks.{AreInQuestion, HoldsAll, IsFreeRow, IsSettled}
 use Rattle.roc_server_rows.specs.Marks.{mark_in, at_end, by_link, AreNewRowsBy, IsOpen, RowLeads, WaitsOn}
-use Rattle.roc_server_rows.proofs.Turns.{turn_all}
-use Rattle.roc_server_rows.proofs.Alive.{row_within}
-use Rattle.roc_server_rows.proofs.Looked.{turn_has}
+use Rattle.roc_server_rows.proofs.Alive.{told_live}
+use Rattle.roc_server_rows.proofs.Looked.{here_made}
 use Rattle.roc_server_rows.proofs.InQuestion.{once_filter}
-
--- ---- what is followed of one row
-
-module _ (made : Row → List Dependency) where
-  found_made : (id : TxnId) (r : Row) (rs : List Row) → r.id ≡ id → Has r rs → AllByRecursion (λ s. s.id ≡ id → s ≡ r) rs → list_of id (map (λ s. list_with s.id (made s)) rs) ≡ Some (made r)
-  found_made id r [] is h a = absurd h
-  found_made id r (s ∷ ss) is h a = go (is_txn s.id id) refl h (λ k. found_made id r ss is k a.1)
-    where
-      go : (b : Bool) → is_txn s.id id ≡ b → (r ≡ s) ⊎ Has r ss → (Has r ss → list_of id (map (λ s. list_with s.id (made s)) ss) ≡ Some (made r))
-          → cond b (Some (made s)) (list_of id (map (λ s. list_with s.id (made s)) ss)) ≡ Some (made r)
-      go true e k ih = ap (λ (x : Row). Some (made x)) (a.0 (is_txn-true s.id id e))
-      go false e (inl z) ih = absurd (false≢true (sym e ∙ is_txn-eq s.id id (ap (λ (x : Row). x.id) (sym z) ∙ is)))
-      go false e (inr k) ih = ih k
-
-  none_made : (id : TxnId) (rs : List Row) → AllByRecursion (λ s. is_txn s.id id ≡ false) rs → list_of id (map (λ s. list_with s.id (made s)) rs) ≡ None
-  none_made id [] a = refl
-  none_made id (s ∷ ss) a = ap (λ b. cond b (Some (made s)) (list_of id (map (λ s. list_with s.id (made s)) ss))) a.0 ∙ none_made id ss a.1
 
 -- ---- entries and links
 
@@ -91,32 +70,13 @@ module _ (numbers : List (TxnId × ℕ)) (rows : List Row) (stamp : ℕ) (t : Is
   abbrev made_at : Row → List Dependency
   made_at r = followed rows r.edges r.names
 
-  told_turn : (n : ℕ) → is_told (row_in rows n) ≡ true → 0 < (row_in rows n).turn
-  told_turn n h = grind (arith, nat_tests)
-
-  pub told_live : (n : ℕ) → is_told (row_in rows n) ≡ true → 0 < (row_in rows n).birth
-  told_live n h = t.told_live n (told_turn n h)
-
-  same_number : (n k : ℕ) → 0 < (row_in rows n).birth → 0 < (row_in rows k).birth → id_at k ≡ id_at n → k ≡ n
-  same_number n k live other is =
-      let two : Some n ≡ Some k = sym (t.each n live) ∙ (ap (λ q. lookup (is_txn q) numbers) (sym is) ∙ t.each k other) in
-      let one : n ≡ k = cc in
-      sym one
-
   told_links : (n : ℕ) → is_told (row_in rows n) ≡ true → list_of (id_at n) (row_links rows) ≡ Some (made_at (row_in rows n))
   told_links n h =
-      found_made made_at (id_at n) (row_in rows n) (rows_in_turn rows) refl (turn_has rows n (row_within rows n (told_live n h)) h)
-      (turn_all (λ s. s.id ≡ id_at n → s ≡ row_in rows n) rows (λ k q is. ap (row_in rows) (same_number n k (told_live n h) (told_live k q) is)))
+      here_made made_at numbers rows stamp t (id_at n) n (t.each n (told_live numbers rows stamp t n h)) ∙ ap (λ b. cond b (Some (made_at (row_in rows n))) None) h
 
   pub untold_links : (n : ℕ) → 0 < (row_in rows n).birth → (row_in rows n).turn ≡ 0 → list_of (id_at n) (row_links rows) ≡ None
-  untold_links n live z = none_made made_at (id_at n) (rows_in_turn rows) (turn_all (λ s. is_txn s.id (id_at n) ≡ false) rows (λ k h. other k h (is_txn (id_at k) (id_at n)) refl))
-    where
-      other : (k : ℕ) → is_told (row_in rows k) ≡ true → (b : Bool) → is_txn (id_at k) (id_at n) ≡ b → b ≡ false
-      other k h true e =
-          let one : k ≡ n = same_number n k live (told_live k h) (is_txn-true (id_at k) (id_at n) e) in
-          let none : (row_in rows k).turn ≡ 0 = ap (λ j. (row_in rows j).turn) one ∙ z in
-          absurd (omega (arith, told_turn k h, none))
-      other k h false e = refl
+  untold_links n live z =
+      here_made made_at numbers rows stamp t (id_at n) n (t.each n live) ∙ ap (λ (k : ℕ). cond (nat_lt 0 k) (Some (made_at (row_in rows n))) None) z
 
   is_known_row : (n : ℕ) → is_told (row_in rows n) ≡ true → IsKnown (row_links rows) (id_at n)
   is_known_row n h = ap is_some (told_links n h)

@@ -1,6 +1,6 @@
 -- A row ends: each link that names it is done
 use Rattle.std.proofs.Common.{◌≡◌, ◌≢◌, ◌<◌, inl, inr, ℕ, Bool, true, false, not, cond, List, [], ◌∷◌, set, map, filter, Some, None, refl, sym, ap, ◌∙◌, subst, arith}
-use Rattle.std.proofs.lemmas.Bool.{false≢true}
+use Rattle.std.proofs.lemmas.Bool.{false≢true, cases_eq}
 use Rattle.std.proofs.lemmas.Bool.Decides.{nat_tests}
 use Rattle.std.proofs.lemmas.List.{get_or-set_same, get_or-set_other}
 use Rattle.std.specs.Prelude.{nat_lt}
@@ -16,10 +16,9 @@ use Rattle.roc_server_rows.specs.declared.rows.Row.{Row}
 use Rattle.roc_step.specs.Carried.{list_with}
 use Rattle.roc_step.specs.Links.{without_links}
 use Rattle.roc_server_rows.specs.Changes.{lists_ended}
-use Rattle.roc_server_rows.specs.Rows.{no_row, row_in, is_alive, is_told, followed, rows_in_turn, known_in, links_in, known_of, row_links, lists_by, AreNamed, IsRowOf, IsRowTable}
-use Rattle.roc_server_rows.specs.Marks.{IsOut}
+use Rattle.roc_server_rows.specs.Rows.{no_row, row_in, is_alive, followed, rows_in_turn, known_in, links_in, known_of, row_links, lists_by, AreNamed, IsRowOf, IsRowTable}
 use Rattle.roc_server_rows.proofs.Turns.{turn_without, turn_kept}
-use Rattle.roc_server_rows.proofs.Alive.{row_within, numbers_differ, alive_same, alive_live, dead_at}
+use Rattle.roc_server_rows.proofs.Alive.{row_within, alive_same, alive_live, dead_at, told_live}
 use Rattle.roc_server_rows.proofs.Made.{told_names}
 
 -- what is made of the elements that pass
@@ -109,11 +108,8 @@ module _ (numbers : List (TxnId × ℕ)) (old : List Row) (stamp : ℕ) (t : IsR
         own = λ l e is. absurd (false≢true (sym (none_is l.at (alive_live old l e)) ∙ is_txn-eq (row_in old l.at).id id is));
         stays = λ l e is. e;
         dead = λ l e. e;
-        turn = sym (turn_kept (is_other id) old (λ n h. ap not (none_is n (t.told_live n (told_turn n h)))));
+        turn = sym (turn_kept (is_other id) old (λ n h. ap not (none_is n (told_live numbers old stamp t n h))));
       }
-    where
-      told_turn : (n : ℕ) → is_told (row_in old n) ≡ true → 0 < (row_in old n).turn
-      told_turn n h = grind (arith, nat_tests)
 
   pub absent_links : row_links old ≡ map (without_links (λ t. is_txn t id)) (row_links old)
   absent_links = ended_links id old old stamp none_ended (rows_in_turn old) (told_names numbers old stamp t)
@@ -157,24 +153,18 @@ module _ (numbers : List (TxnId × ℕ)) (old : List Row) (stamp : ℕ) (t : IsR
   all_ended : AreOthers id old new
   all_ended =
       record {
-        own = λ l e is. elim (numbers_differ l.at n) [
+        own = λ l e is. elim (cases_eq l.at n) [
           | inl z ↦ end_dead l z
           | inr d ↦ absurd (false≢true (sym (other_is l.at (alive_live old l e) d) ∙ is_txn-eq (row_in old l.at).id id is))
         ];
-        stays = λ l e is. elim (numbers_differ l.at n) [
+        stays = λ l e is. elim (cases_eq l.at n) [
           | inl z ↦ absurd (false≢true (sym is ∙ is_txn-eq (row_in old l.at).id id (ap (λ m. (row_in old m).id) z ∙ row.is)))
           | inr d ↦ end_same l d ∙ e
         ];
-        dead = λ l e. elim (numbers_differ l.at n) [ inl z ↦ end_dead l z | inr d ↦ end_same l d ∙ e ];
+        dead = λ l e. elim (cases_eq l.at n) [ inl z ↦ end_dead l z | inr d ↦ end_same l d ∙ e ];
         turn = turn_without (is_other id) old n v (row_within old n row.live) (ap (nat_lt 0) untold) (ap not (is_txn-eq (row_in old n).id id row.is))
-            (λ k d h. ap not (other_is k (t.told_live k (told_turn k h)) d));
+            (λ k d h. ap not (other_is k (told_live numbers old stamp t k h) d));
       }
-    where
-      told_turn : (k : ℕ) → is_told (row_in old k) ≡ true → 0 < (row_in old k).turn
-      told_turn k h = grind (arith, nat_tests)
-
-  pub end_out : IsOut n old (set old n v)
-  end_out = record { own = ap is_told end_own ∙ ap (nat_lt 0) untold; others = end_other; dead = end_dead; links = end_same }
 
   pub end_lists : lists_by (set old n v) ≡ lists_ended id (lists_by old)
   end_lists = ended_lists id old new stamp all_ended (told_names numbers old stamp t)
@@ -186,7 +176,7 @@ module _ (numbers : List (TxnId × ℕ)) (old : List Row) (stamp : ℕ) (t : IsR
   end_names (d ∷ ds) (l ∷ ls) a = (
     record {
       born = a.0.born;
-      right = λ h. elim (numbers_differ l.at n) [
+      right = λ h. elim (cases_eq l.at n) [
         | inl z ↦ absurd (false≢true (sym (end_dead l z) ∙ h))
         | inr x ↦ ap (λ (r : Row). r.id) (end_other l.at x) ∙ a.0.right (sym (end_same l x) ∙ h)
       ];
@@ -210,7 +200,7 @@ module _ (numbers : List (TxnId × ℕ)) (old : List Row) (stamp : ℕ) (t : IsR
             record { live = subst (λ (x : Row). 0 < x.birth) (sym same) w.live; is = ap (λ (x : Row). x.id) same ∙ w.is }
 
     end_each : (m : ℕ) → 0 < (row_in new m).birth → lookup (is_txn (row_in new m).id) numbers2 ≡ Some m
-    end_each m live = elim (numbers_differ m n) [
+    end_each m live = elim (cases_eq m n) [
       | inl e ↦
           let z : (row_in new m).birth ≡ 0 = ap (λ k. (row_in new k).birth) e ∙ (ap (λ (x : Row). x.birth) end_own ∙ unborn) in
           absurd (omega (arith, live, z))
@@ -225,7 +215,7 @@ module _ (numbers : List (TxnId × ℕ)) (old : List Row) (stamp : ℕ) (t : IsR
         turned q e = grind (arith, nat_tests)
 
     end_at : (P : Row → Type 0) → P v → ((m : ℕ) → P (row_in old m)) → (m : ℕ) → P (row_in new m)
-    end_at P own was m = elim (numbers_differ m n) [
+    end_at P own was m = elim (cases_eq m n) [
       | inl e ↦ subst P (sym (ap (row_in new) e ∙ end_own)) own
       | inr d ↦ subst P (sym (end_other m d)) (was m)
     ]

@@ -1,8 +1,8 @@
 -- Marks stay right as rows come, get lists and end
 use Rattle.std.proofs.Common.{◌≡◌, ◌≢◌, ◌<◌, ◌⊎◌, inl, inr, ℕ, Bool, true, false, List, [], ◌∷◌, refl, sym, ap, ◌∙◌, subst, arith}
 use Rattle.std.proofs.lemmas.Bool.{false≢true}
-use Rattle.std.proofs.lemmas.Bool.Decides.{nat_tests}
 use Rattle.std.specs.Prelude.{nat_lt}
+use Rattle.std.proofs.lemmas.Bool.Decides.{nat_tests}
 use Rattle.roc_sequence.specs.Lists.{Has}
 use Rattle.roc_base.specs.declared.id.TxnId.{TxnId}
 use Rattle.roc_base.specs.Edge.{Dependency}
@@ -12,6 +12,7 @@ use Rattle.roc_server_rows.specs.declared.marks.Mark.{Mark}
 use Rattle.roc_server_rows.specs.Rows.{row_in, is_alive, is_told, AreNamed, Grows, IsRowTable}
 use Rattle.roc_server_rows.specs.Inner.Marks.{Drops}
 use Rattle.roc_server_rows.specs.Marks.{mark_in, at_end, by_link, AreMarked, IsOut, IsRowTold, RowLeads, MayEnd, WaitsOn, Wakes}
+use Rattle.roc_server_rows.proofs.Alive.{told_live}
 
 -- a link that a row has was made before
 pub born_link : (rows : List Row) (stamp : ℕ) (ds : List Dependency) (ls : List Link) → AreNamed rows stamp ds ls → (l : Link) → Has l ls → l.birth < stamp
@@ -20,9 +21,6 @@ born_link rows stamp [] (x ∷ xs) a l h = absurd a
 born_link rows stamp (d ∷ ds) [] a l h = absurd h
 born_link rows stamp (d ∷ ds) (x ∷ xs) a l (inl e) = subst (λ (y : Link). y.birth < stamp) (sym e) a.0.born
 born_link rows stamp (d ∷ ds) (x ∷ xs) a l (inr h) = born_link rows stamp ds xs a.1 l h
-
-pub told_turn : (r : Row) → is_told r ≡ true → 0 < r.turn
-told_turn r h = grind (arith, nat_tests)
 
 untold_turn : (r : Row) → r.turn ≡ 0 → is_told r ≡ false
 untold_turn r h = ap (nat_lt 0) h
@@ -47,43 +45,13 @@ marks_kept old new marks marks2 a k =
       waits = k.waits;
     }
 
--- ---- a row without a birth has no mark
-
-module _ (numbers : List (TxnId × ℕ)) (rows : List Row) (stamp : ℕ) (t : IsRowTable numbers rows stamp) (marks : List Mark) (a : AreMarked rows marks) where
-  pub unborn_open : (n : ℕ) → (row_in rows n).birth ≡ 0 → (mark_in marks n).decided ≡ false
-  unborn_open n z = go (mark_in marks n).decided refl
-    where
-      go : (b : Bool) → (mark_in marks n).decided ≡ b → b ≡ false
-      go true e = let live = t.told_live n (told_turn (row_in rows n) (a.decided_told n e)) in absurd (omega (arith, live, z))
-      go false e = refl
-
-  leads_live : (n m : ℕ) → RowLeads rows n m → 0 < (row_in rows m).birth → 0 < (row_in rows n).birth
-  leads_live n m at_end live = live
-  leads_live n m (by_link l told has alive rest) live = t.told_live n (told_turn (row_in rows n) told)
-
-  pub unborn_free : (n : ℕ) → (row_in rows n).birth ≡ 0 → (mark_in marks n).waits.birth ≡ 0
-  unborn_free n z = go (nat_lt 0 (mark_in marks n).waits.birth) refl
-    where
-      go : (b : Bool) → nat_lt 0 (mark_in marks n).waits.birth ≡ b → (mark_in marks n).waits.birth ≡ 0
-      go true e =
-          let p : 0 < (mark_in marks n).waits.birth = grind (arith, nat_tests) in
-          let w = a.waits n p in
-          let live = leads_live n (mark_in marks n).waits.at w.leads w.live in
-          absurd (omega (arith, live, z))
-      go false e = grind (arith, nat_tests)
-
-  -- what is decided leads to what is decided alone, so to nothing without a list
-  decided_leads : (n m : ℕ) → RowLeads rows n m → (mark_in marks n).decided ≡ true → (mark_in marks m).decided ≡ true
-  decided_leads n m at_end d = d
-  decided_leads n m (by_link l told has alive rest) d = decided_leads l.at m rest (a.closed n d l has alive)
-
 -- ---- rows come
 
 module _ (numbers : List (TxnId × ℕ)) (old new : List Row) (was stamp : ℕ) (t : IsRowTable numbers old was) (g : Grows old new was stamp) (marks : List Mark) (a : AreMarked old marks) where
   leads_grow : (n m : ℕ) → RowLeads old n m → RowLeads new n m
   leads_grow n m at_end = at_end
   leads_grow n m (by_link l told has alive rest) =
-      let live : 0 < (row_in old n).birth = t.told_live n (told_turn (row_in old n) told) in
+      let live : 0 < (row_in old n).birth = told_live numbers old was t n told in
       let same : row_in new n ≡ row_in old n = g.rows n live in
       let born : l.birth < was = born_link old was (row_in old n).edges (row_in old n).names (t.names n) l has in
       by_link l (ap is_told same ∙ told) (subst (λ (r : Row). Has l r.names) (sym same) has) (g.links l born ∙ alive) (leads_grow l.at m rest)
@@ -110,7 +78,7 @@ module _ (numbers : List (TxnId × ℕ)) (old new : List Row) (was stamp : ℕ) 
       })
     where
       same_row : (n : ℕ) → (mark_in marks n).decided ≡ true → row_in new n ≡ row_in old n
-      same_row n d = g.rows n (t.told_live n (told_turn (row_in old n) (a.decided_told n d)))
+      same_row n d = g.rows n (told_live numbers old was t n (a.decided_told n d))
 
 -- ---- a row gets a list, and those that waited at it are in question
 
@@ -155,6 +123,18 @@ module _ (n : ℕ) (old new : List Row) (i : IsRowTold n old new) (marks marks2 
             live = subst (λ (r : Row). 0 < r.birth) (sym row) o.live;
             untold = ap (λ (r : Row). r.turn) row ∙ o.untold;
           })
+
+-- nobody waits at a row that has a list
+pub none_waits : (rows : List Row) (marks : List Mark) → AreMarked rows marks → (n : ℕ) → is_told (row_in rows n) ≡ true → Wakes n marks marks
+none_waits rows marks a n told = record { each = refl; decided = λ k. refl; woken = λ k. go k (nat_lt 0 (mark_in marks k).waits.birth) refl }
+  where
+    go : (k : ℕ) (b : Bool) → nat_lt 0 (mark_in marks k).waits.birth ≡ b
+        → ((mark_in marks k).waits.birth ≡ 0) ⊎ (((mark_in marks k).waits ≡ (mark_in marks k).waits) × ((mark_in marks k).waits.at ≢ n))
+    go k true e =
+        let p : 0 < (mark_in marks k).waits.birth = grind (arith, nat_tests) in
+        let untold = untold_turn (row_in rows (mark_in marks k).waits.at) (a.waits k p).untold in
+        inr (refl, λ z. false≢true (sym untold ∙ (ap (λ j. is_told (row_in rows j)) z ∙ told)))
+    go k false e = inl (grind (arith, nat_tests))
 
 -- ---- a row ends that is decided or has no list: nothing that waits elsewhere leads through it
 

@@ -14,8 +14,9 @@ use Rattle.roc_server_rows.specs.Inner.Rows.{GrowsTo}
 use Rattle.roc_server_rows.specs.Rows.{no_row, row_in, is_told, known_of, row_links, lists_by, followed, AreNamed, IsRowOf, IsRowTable, AreWhole}
 use Rattle.std.proofs.lemmas.List.{get_or-set_same, get_or-set_other}
 use Rattle.std.specs.Prelude.{nat_lt}
+use Rattle.std.proofs.lemmas.Bool.{cases_eq}
 use Rattle.roc_server_rows.specs.Marks.{IsRowTold}
-use Rattle.roc_server_rows.proofs.Alive.{row_within, numbers_differ, alive_same}
+use Rattle.roc_server_rows.proofs.Alive.{row_within, alive_same}
 use Rattle.roc_server_rows.proofs.Looked.{untold_row}
 use Rattle.roc_server_rows.proofs.Told.{told_table, told_known, told_links}
 use Rattle.roc_server_rows.proofs.Named.{stays}
@@ -63,7 +64,7 @@ learnt_told first mid id link r t lists row birth own turn unknown =
       untold = ap (nat_lt 0) (untold_row mid.numbers.entries rs mid.stamp t id link.at here none);
       told = ap is_told (get_or-set_same rs link.at r no_row (row_within rs link.at row.live)) ∙ now_told (omega (arith, t.some, turn));
       others = λ k d. get_or-set_other rs link.at k r no_row d;
-      links = λ l. elim (numbers_differ l.at link.at) [
+      links = λ l. elim (cases_eq l.at link.at) [
         | inl e ↦
             alive_same (set rs link.at r) rs l
             (ap (λ j. (row_in (set rs link.at r) j).birth) e ∙ (ap (λ (x : Row). x.birth) (get_or-set_same rs link.at r no_row (row_within rs link.at row.live))

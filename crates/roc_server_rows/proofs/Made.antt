@@ -1,6 +1,6 @@
 -- A row is made for a transaction that has none
 use Rattle.std.proofs.Common.{◌≡◌, ◌≢◌, ◌<◌, ◌+◌, inl, inr, ℕ, Bool, true, false, cond, List, [], map, Some, None, refl, sym, ap, ◌∙◌, subst, arith}
-use Rattle.std.proofs.lemmas.Bool.{false≢true}
+use Rattle.std.proofs.lemmas.Bool.{false≢true, cases_eq}
 use Rattle.std.proofs.lemmas.Bool.Decides.{nat_tests}
 use Rattle.std.specs.Prelude.{nat_lt}
 use Rattle.std.specs.Map.{lookup}
@@ -12,7 +12,7 @@ use Rattle.roc_server_rows.specs.declared.rows.Row.{Row}
 use Rattle.roc_server_rows.specs.Inner.Rows.{IsPlaced}
 use Rattle.roc_server_rows.specs.Rows.{row_in, is_told, rows_in_turn, known_in, links_in, row_links, lists_by, AreNamed, IsRowOf, IsRowTable, Grows}
 use Rattle.roc_server_rows.proofs.Turns.{turn_all, turn_same, turn_more}
-use Rattle.roc_server_rows.proofs.Alive.{numbers_differ, placed_at, placed_other, placed_free, alive_same, dead_at, dead_later, names_grow, links_grow}
+use Rattle.roc_server_rows.proofs.Alive.{placed_at, placed_other, placed_free, alive_same, dead_at, dead_later, names_grow, links_grow}
 
 -- what is told names what its entries do
 pub told_names : (numbers : List (TxnId × ℕ)) (rs : List Row) (stamp : ℕ) → IsRowTable numbers rs stamp → AllByRecursion (λ r. AreNamed rs stamp r.edges r.names) (rows_in_turn rs)
@@ -26,11 +26,11 @@ module _ (numbers : List (TxnId × ℕ)) (old new : List Row) (stamp at : ℕ) (
         later = omega arith;
         rows = λ n k. placed_other old new r at p n (λ e.
             let free : (row_in old n).birth ≡ 0 = ap (λ m. (row_in old m).birth) e ∙ placed_free old new r at p in omega (arith, k, free));
-        told = λ n h. elim (numbers_differ n at) [
+        told = λ n h. elim (cases_eq n at) [
           | inl e ↦ absurd (false≢true (sym (ap (nat_lt 0) untold) ∙ (ap is_told (sym (placed_at old new r at p)) ∙ (ap (λ m. is_told (row_in new m)) (sym e) ∙ h))))
           | inr d ↦ placed_other old new r at p n d
         ];
-        links = λ l k. elim (numbers_differ l.at at) [
+        links = λ l k. elim (cases_eq l.at at) [
           | inl e ↦
               let free : (row_in old l.at).birth ≡ 0 = ap (λ m. (row_in old m).birth) e ∙ placed_free old new r at p in
               let now : (row_in new l.at).birth ≡ stamp = ap (λ m. (row_in new m).birth) e ∙ (ap (λ (x : Row). x.birth) (placed_at old new r at p) ∙ born) in
@@ -81,7 +81,7 @@ module _ (numbers : List (TxnId × ℕ)) (old new : List Row) (stamp at : ℕ) (
             record { live = subst (λ (x : Row). 0 < x.birth) (sym same) w.live; is = ap (λ (x : Row). x.id) same ∙ w.is }
 
     made_each : (n : ℕ) → 0 < (row_in new n).birth → lookup (is_txn (row_in new n).id) numbers2 ≡ Some n
-    made_each n live = elim (numbers_differ n at) [
+    made_each n live = elim (cases_eq n at) [
       | inl e ↦
           let is : (row_in new n).id ≡ r.id = ap (λ m. (row_in new m).id) e ∙ ap (λ (x : Row). x.id) (placed_at old new r at p) in
           ap (λ q. lookup (is_txn q) numbers2) is ∙ (kept r.id ∙ (ap (λ b. cond b (Some at) (lookup (is_txn r.id) numbers)) (is_txn-same r.id) ∙ ap Some (sym e)))
@@ -99,7 +99,7 @@ module _ (numbers : List (TxnId × ℕ)) (old new : List Row) (stamp at : ℕ) (
         go false e was = was
 
     made_at : (P : Row → Type 0) → P r → ((n : ℕ) → P (row_in old n)) → (n : ℕ) → P (row_in new n)
-    made_at P own was n = elim (numbers_differ n at) [
+    made_at P own was n = elim (cases_eq n at) [
       | inl e ↦ subst P (sym (ap (row_in new) e ∙ placed_at old new r at p)) own
       | inr d ↦ subst P (sym (placed_other old new r at p n d)) (was n)
     ]

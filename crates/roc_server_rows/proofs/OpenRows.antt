@@ -1,6 +1,6 @@
 -- Which rows have lists and are not decided, as rows and marks change
 use Rattle.std.proofs.Common.{◌≡◌, ◌≢◌, ◌<◌, ◌≤◌, ◌&&◌, ◌++◌, ◌∷◌, [], inl, inr, ℕ, Bool, true, false, not, List, Option, length, filter, refl, sym, ap, ◌∙◌, ◌⊎◌, subst, arith}
-use Rattle.std.proofs.lemmas.Bool.{false≢true}
+use Rattle.std.proofs.lemmas.Bool.{false≢true, cases_eq}
 use Rattle.roc_sequence.specs.Lists.{Has}
 use Rattle.roc_sequence.proofs.Members.{has_append, has_filter, has_left, has_one, has_right, from_has_filter}
 use Rattle.roc_server_rows.specs.declared.rows.Link.{Link}
@@ -12,9 +12,8 @@ use Rattle.roc_server_rows.specs.Marks.{mark_in, is_open, AreOpen, AreSameDecide
 use Rattle.roc_server_rows.specs.Except.{rows_but}
 use Rattle.roc_server_rows.proofs.Excepted.{told_but}
 use Rattle.roc_base.specs.declared.id.TxnId.{TxnId}
-use Rattle.roc_server_rows.proofs.Alive.{numbers_differ}
-use Rattle.roc_server_rows.proofs.KeptMarks.{told_turn}
 use Rattle.roc_server_rows.proofs.InQuestion.{once_filter}
+use Rattle.roc_server_rows.proofs.Alive.{told_live}
 
 test_open : (d t : Bool) → (not d && t) ≡ true → (d ≡ false) × (t ≡ true)
 test_open true t h = absurd (false≢true h)
@@ -74,7 +73,7 @@ module _ (old new : List Row) (marks marks2 : List Mark) (ns : List ℕ) (o : Ar
             | inl i ↦ let q = o.only k i in record { within = omega (arith, q.within, each); told = others k (apart k i) ∙ q.told; undecided = same k ∙ q.undecided }
             | inr i ↦ subst (IsOpen new marks2) (sym (has_one k at i)) (record { within = within; told = told; undecided = undecided })
           ];
-          all = λ k t u. elim (numbers_differ k at) [
+          all = λ k t u. elim (cases_eq k at) [
             | inl e ↦ has_right k ns (at ∷ []) (inl e)
             | inr d ↦ has_left k ns (at ∷ []) (o.all k (sym (others k d) ∙ t) (sym (same k) ∙ u))
           ];
@@ -146,5 +145,5 @@ grown_told numbers old new was stamp t g n = go (is_told (row_in new n)) (is_tol
   where
     go : (b c : Bool) → is_told (row_in new n) ≡ b → is_told (row_in old n) ≡ c → is_told (row_in new n) ≡ is_told (row_in old n)
     go true c e f = ap is_told (g.told n e)
-    go false true e f = ap is_told (g.rows n (t.told_live n (told_turn (row_in old n) f)))
+    go false true e f = ap is_told (g.rows n (told_live numbers old was t n f))
     go false false e f = e ∙ sym f

@@ -4,6 +4,7 @@ use Rattle.std.proofs.lemmas.Bool.Decides.{nat_tests}
 use Rattle.std.proofs.lemmas.List.{get_or-set_same, get_or-set_other, map-append}
 use Rattle.std.specs.Prelude.{nat_lt}
 use Rattle.std.specs.Map.{lookup}
+use Rattle.std.proofs.lemmas.Bool.{cases_eq}
 use Rattle.roc_base.specs.declared.id.TxnId.{TxnId}
 use Rattle.roc_base.specs.TxnId.{is_txn}
 use Rattle.roc_base.specs.Edge.{Dependency}
@@ -12,7 +13,7 @@ use Rattle.roc_server_rows.specs.declared.rows.Row.{Row}
 use Rattle.roc_step.specs.Carried.{list_with}
 use Rattle.roc_server_rows.specs.Rows.{no_row, row_in, is_alive, followed, rows_in_turn, known_in, links_in, known_of, row_links, AreNamed, IsRowOf, IsRowTable}
 use Rattle.roc_server_rows.proofs.Turns.{turn_last}
-use Rattle.roc_server_rows.proofs.Alive.{row_within, numbers_differ, alive_same}
+use Rattle.roc_server_rows.proofs.Alive.{row_within, alive_same}
 
 module _ (numbers : List (TxnId × ℕ)) (old : List Row) (stamp n : ℕ) (r : Row) (t : IsRowTable numbers old stamp) (live : 0 < (row_in old n).birth)
     (same_id : r.id ≡ (row_in old n).id) (same_birth : r.birth ≡ (row_in old n).birth) (turn : r.turn ≡ stamp) where
@@ -26,7 +27,7 @@ module _ (numbers : List (TxnId × ℕ)) (old : List Row) (stamp n : ℕ) (r : R
   told_other m d = get_or-set_other old n m r no_row d
 
   told_at : (P : Row → Row → Type 0) → P (row_in old n) r → ((x : Row) → P x x) → (m : ℕ) → P (row_in old m) (row_in new m)
-  told_at P own other m = elim (numbers_differ m n) [
+  told_at P own other m = elim (cases_eq m n) [
     | inl e ↦ subst (λ k. P (row_in old k) (row_in new k)) (sym e) (subst (P (row_in old n)) (sym told_own) own)
     | inr d ↦ subst (P (row_in old m)) (sym (told_other m d)) (other (row_in old m))
   ]
@@ -77,19 +78,19 @@ module _ (numbers : List (TxnId × ℕ)) (old : List Row) (stamp n : ℕ) (r : R
       }
     where
       told_live : (m : ℕ) → 0 < (row_in new m).turn → 0 < (row_in new m).birth
-      told_live m h = elim (numbers_differ m n) [
+      told_live m h = elim (cases_eq m n) [
         | inl e ↦ subst (λ k. 0 < (row_in new k).birth) (sym e) (subst (λ b. 0 < b) (sym (births_stay n)) live)
         | inr d ↦ subst (λ (x : Row). 0 < x.birth) (sym (told_other m d)) (t.told_live m (subst (λ (x : Row). 0 < x.turn) (told_other m d) h))
       ]
 
       turns : (m : ℕ) → (row_in new m).turn < stamp + 1
-      turns m = elim (numbers_differ m n) [
+      turns m = elim (cases_eq m n) [
         | inl e ↦ subst (λ k. (row_in new k).turn < stamp + 1) (sym e) (subst (λ (x : Row). x.turn < stamp + 1) (sym told_own) (omega (arith, turn)))
         | inr d ↦ subst (λ (x : Row). x.turn < stamp + 1) (sym (told_other m d)) (omega (arith, t.turns m))
       ]
 
       names : (m : ℕ) → AreNamed new (stamp + 1) (row_in new m).edges (row_in new m).names
-      names m = elim (numbers_differ m n) [
+      names m = elim (cases_eq m n) [
         | inl e ↦
             subst (λ k. AreNamed new (stamp + 1) (row_in new k).edges (row_in new k).names) (sym e)
             (subst (λ (x : Row). AreNamed new (stamp + 1) x.edges x.names) (sym told_own) (names_stay r.edges r.names own))

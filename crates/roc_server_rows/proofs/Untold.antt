@@ -1,9 +1,9 @@
 -- A list is taken back: its row stays, for those that name it
 use Rattle.std.proofs.Common.{◌≡◌, ◌≢◌, ◌<◌, inl, inr, ℕ, Bool, true, false, not, cond, List, [], ◌∷◌, set, map, filter, Some, None, refl, sym, ap, ◌∙◌, subst, arith}
-use Rattle.std.proofs.lemmas.Bool.Decides.{nat_tests}
 use Rattle.std.proofs.lemmas.List.{get_or-set_same, get_or-set_other}
 use Rattle.std.specs.Prelude.{nat_lt}
 use Rattle.std.specs.Map.{lookup}
+use Rattle.std.proofs.lemmas.Bool.{cases_eq}
 use Rattle.roc_base.specs.declared.id.TxnId.{TxnId}
 use Rattle.roc_base.specs.TxnId.{is_txn}
 use Rattle.roc_base.specs.Equalities.{is_txn-true}
@@ -16,13 +16,10 @@ use Rattle.roc_server_rows.specs.Changes.{untold}
 use Rattle.roc_server_rows.specs.Rows.{no_row, row_in, is_alive, is_told, followed, rows_in_turn, known_in, links_in, known_of, row_links, lists_by, AreNamed, IsRowOf, IsRowTable}
 use Rattle.roc_server_rows.specs.Marks.{IsTakenBack}
 use Rattle.roc_server_rows.proofs.Turns.{turn_kept, turn_without}
-use Rattle.roc_server_rows.proofs.Alive.{row_within, numbers_differ, alive_same}
+use Rattle.roc_server_rows.proofs.Alive.{row_within, alive_same, told_live}
 use Rattle.roc_server_rows.proofs.Ended.{filter_made, is_other}
 
 module _ (numbers : List (TxnId × ℕ)) (rows : List Row) (stamp : ℕ) (t : IsRowTable numbers rows stamp) (id : TxnId) where
-  told_turn : (n : ℕ) → is_told (row_in rows n) ≡ true → 0 < (row_in rows n).turn
-  told_turn n h = grind (arith, nat_tests)
-
   -- where no row is of it
   pub untold_none : lookup (is_txn id) numbers ≡ None → lists_by rows ≡ untold id (lists_by rows)
   untold_none absent =
@@ -39,7 +36,7 @@ module _ (numbers : List (TxnId × ℕ)) (rows : List Row) (stamp : ℕ) (t : Is
       none n live false e = refl
 
       turn : filter (is_other id) (rows_in_turn rows) ≡ rows_in_turn rows
-      turn = turn_kept (is_other id) rows (λ n h. ap not (none n (t.told_live n (told_turn n h)) (is_txn (row_in rows n).id id) refl))
+      turn = turn_kept (is_other id) rows (λ n h. ap not (none n (told_live numbers rows stamp t n h) (is_txn (row_in rows n).id id) refl))
 
   module _ (n : ℕ) (here : lookup (is_txn id) numbers ≡ Some n) (r : Row) (own : r.id ≡ id) (birth : r.birth ≡ (row_in rows n).birth)
       (turn : r.turn ≡ 0) (no_edges : r.edges ≡ []) (no_names : r.names ≡ []) where
@@ -56,13 +53,13 @@ module _ (numbers : List (TxnId × ℕ)) (rows : List Row) (stamp : ℕ) (t : Is
     new_other m d = get_or-set_other rows n m r no_row d
 
     ids_stay : (m : ℕ) → (row_in new m).id ≡ (row_in rows m).id
-    ids_stay m = elim (numbers_differ m n) [
+    ids_stay m = elim (cases_eq m n) [
       | inl e ↦ ap (λ j. (row_in new j).id) e ∙ (ap (λ (x : Row). x.id) new_own ∙ (own ∙ (sym row.is ∙ ap (λ j. (row_in rows j).id) (sym e))))
       | inr d ↦ ap (λ (x : Row). x.id) (new_other m d)
     ]
 
     births_stay : (m : ℕ) → (row_in new m).birth ≡ (row_in rows m).birth
-    births_stay m = elim (numbers_differ m n) [
+    births_stay m = elim (cases_eq m n) [
       | inl e ↦ ap (λ j. (row_in new j).birth) e ∙ (ap (λ (x : Row). x.birth) new_own ∙ (birth ∙ ap (λ j. (row_in rows j).birth) (sym e)))
       | inr d ↦ ap (λ (x : Row). x.birth) (new_other m d)
     ]
@@ -100,7 +97,7 @@ module _ (numbers : List (TxnId × ℕ)) (rows : List Row) (stamp : ℕ) (t : Is
     turns : rows_in_turn new ≡ filter (is_other id) (rows_in_turn rows)
     turns =
         turn_without (is_other id) rows n r (row_within rows n row.live) (ap (nat_lt 0) turn) (ap not (is_txn-eq (row_in rows n).id id row.is))
-        (λ k d h. ap not (other k (t.told_live k (told_turn k h)) d (is_txn (row_in rows k).id id) refl))
+        (λ k d h. ap not (other k (told_live numbers rows stamp t k h) d (is_txn (row_in rows k).id id) refl))
 
     pub untold_lists : lists_by (set rows n r) ≡ untold id (lists_by rows)
     untold_lists =
@@ -112,7 +109,7 @@ module _ (numbers : List (TxnId × ℕ)) (rows : List Row) (stamp : ℕ) (t : Is
         λ i. record { known = known i; links = links i }
 
     new_at : (P : Row → Type 0) → P r → ((m : ℕ) → P (row_in rows m)) → (m : ℕ) → P (row_in new m)
-    new_at P mine was m = elim (numbers_differ m n) [
+    new_at P mine was m = elim (cases_eq m n) [
       | inl e ↦ subst P (sym (ap (row_in new) e ∙ new_own)) mine
       | inr d ↦ subst P (sym (new_other m d)) (was m)
     ]

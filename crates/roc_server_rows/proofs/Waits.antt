@@ -1,6 +1,6 @@
 -- Rows that are marked as waiting, one after another
 use Rattle.std.proofs.Common.{◌≡◌, ◌≢◌, ◌<◌, ◌≤◌, ◌+◌, ◌||◌, inl, inr, ℕ, zero, suc, Bool, true, false, cond, List, [], ◌∷◌, ◌++◌, length, get_or, set, take, refl, sym, ap, ◌∙◌, subst, arith}
-use Rattle.std.proofs.lemmas.Bool.{false≢true}
+use Rattle.std.proofs.lemmas.Bool.{false≢true, cases_eq}
 use Rattle.std.proofs.lemmas.Bool.Decides.{nat_tests}
 use Rattle.std.proofs.lemmas.List.{get_or-set_same, get_or-set_other, length-set, take_more}
 use Rattle.std.specs.Prelude.{nat_lt}
@@ -11,11 +11,11 @@ use Rattle.roc_server_rows.specs.declared.rows.Link.{Link}
 use Rattle.roc_server_rows.specs.declared.rows.Row.{Row}
 use Rattle.roc_server_rows.specs.declared.marks.Mark.{Mark}
 use Rattle.roc_server_rows.specs.Rows.{row_in, is_alive, is_told}
-use Rattle.roc_server_rows.specs.Inner.Marks.{Holds, HoldsAll, HoldsSome, IsFreeRow, IsHeldBy}
+use Rattle.roc_server_rows.specs.Inner.Marks.{Holds, HoldsSome, IsFreeRow, IsHeldBy}
 use Rattle.roc_server_rows.specs.Marks.{no_mark, mark_in, at_end, by_link, AreMarked, AreSameDecided}
 use Rattle.roc_server_rows.specs.Inner.Marks.{IsHeldThrough, IsSettled, KeepsWaits, WaitsNewly, count_free}
 use Rattle.roc_server_rows.specs.Marks.{IsOpen, WaitsOn}
-use Rattle.roc_server_rows.proofs.Alive.{numbers_differ, alive_live}
+use Rattle.roc_server_rows.proofs.Alive.{alive_live}
 
 -- ---- one row waits
 
@@ -34,7 +34,7 @@ module _ (rows : List Row) (marks : List Mark) (n : ℕ) (m : Mark) (a : AreMark
   mark_other k d = get_or-set_other marks n k m no_mark d
 
   decided_stays : (k : ℕ) → (mark_in new k).decided ≡ (mark_in marks k).decided
-  decided_stays k = elim (numbers_differ k n) [
+  decided_stays k = elim (cases_eq k n) [
     | inl e ↦ ap (λ j. (mark_in new j).decided) e ∙ (ap (λ (x : Mark). x.decided) mark_own ∙ (same ∙ ap (λ j. (mark_in marks j).decided) (sym e)))
     | inr d ↦ ap (λ (x : Mark). x.decided) (mark_other k d)
   ]
@@ -43,14 +43,14 @@ module _ (rows : List Row) (marks : List Mark) (n : ℕ) (m : Mark) (a : AreMark
   marked_more =
       record {
         decided_told = λ k h. a.decided_told k (sym (decided_stays k) ∙ h);
-        decided_free = λ k h. elim (numbers_differ k n) [
+        decided_free = λ k h. elim (cases_eq k n) [
           | inl e ↦
               let z : (mark_in marks n).decided ≡ true = ap (λ j. (mark_in marks j).decided) (sym e) ∙ (sym (decided_stays k) ∙ h) in
               absurd (false≢true (sym o.undecided ∙ z))
           | inr d ↦ ap (λ (x : Mark). x.waits.birth) (mark_other k d) ∙ a.decided_free k (sym (decided_stays k) ∙ h)
         ];
         closed = λ k h l has alive. decided_stays l.at ∙ a.closed k (sym (decided_stays k) ∙ h) l has alive;
-        waits = λ k h. elim (numbers_differ k n) [
+        waits = λ k h. elim (cases_eq k n) [
           | inl e ↦ subst (λ j. WaitsOn rows j (mark_in new j).waits) (sym e) (subst (λ (x : Mark). WaitsOn rows n x.waits) (sym mark_own) waits)
           | inr d ↦ subst (λ (x : Mark). WaitsOn rows k x.waits) (sym (mark_other k d)) (a.waits k (subst (λ (x : Mark). 0 < x.waits.birth) (mark_other k d) h))
         ];
@@ -76,11 +76,11 @@ module _ (rows : List Row) (marks : List Mark) (n : ℕ) (m : Mark) (a : AreMark
         marked = marked_more;
         same = decided_stays;
         each = length-set marks n m;
-        newly = λ k h. elim (numbers_differ k n) [
+        newly = λ k h. elim (cases_eq k n) [
           | inl e ↦ inr (ap (λ j. is_told (row_in rows j)) e ∙ o.told, ap (λ j. (mark_in marks j).decided) e ∙ o.undecided)
           | inr d ↦ inl (subst (λ (x : Mark). 0 < x.waits.birth) (mark_other k d) h)
         ];
-        keeps = λ k h. elim (numbers_differ k n) [
+        keeps = λ k h. elim (cases_eq k n) [
           | inl e ↦ absurd (let q : (mark_in marks k).waits.birth ≡ 0 = ap (λ j. (mark_in marks j).waits.birth) e ∙ z in omega (arith, q, h))
           | inr d ↦ subst (λ (x : Mark). 0 < x.waits.birth) (sym (mark_other k d)) h
         ];
@@ -231,6 +231,3 @@ turning_more rows first old next ns before changed t s =
 -- what is left to be looked at
 abbrev pub to_look : List Mark → Bool → ℕ
 to_look marks changed = count_free marks + cond changed 1 0
-
-pub all_held : (rows : List Row) (first marks : List Mark) (ns : List ℕ) → IsTurning rows first marks ns false → HoldsAll rows first marks ns
-all_held rows first marks ns t = record { marked = t.marked; same = t.same; each = t.each; keeps = t.keeps; newly = t.newly; settled = t.settled refl }

@@ -3,6 +3,7 @@ use Rattle.std.proofs.Common.{◌≡◌, ◌≢◌, ◌<◌, ◌≤◌, ◌+◌,
 use Rattle.std.proofs.lemmas.Bool.Decides.{nat_tests}
 use Rattle.std.proofs.lemmas.List.{get_or-set_same, get_or-set_other, get_or_past, length-set}
 use Rattle.std.specs.Prelude.{nat_lt}
+use Rattle.std.proofs.lemmas.Bool.{cases_eq}
 use Rattle.roc_sequence.specs.Lists.{Has}
 use Rattle.roc_sequence.proofs.Fronts.{front_more}
 use Rattle.roc_sequence.proofs.Members.{has_append, has_one}
@@ -12,7 +13,6 @@ use Rattle.roc_server_rows.specs.declared.marks.Mark.{Mark}
 use Rattle.roc_server_rows.specs.Rows.{row_in, is_told}
 use Rattle.roc_server_rows.specs.Inner.Marks.{IsAwake, IsChangedAt, IsWokenAt, WakesFor}
 use Rattle.roc_server_rows.specs.Marks.{no_mark, mark_in, HasWaiting, Wakes, WakesAll}
-use Rattle.roc_server_rows.proofs.Alive.{numbers_differ}
 
 -- those at these numbers, and no others but in the same way
 pub record IsVisited (R : Mark → Mark → Type 0) (old new : List Mark) (ns : List ℕ) : Type 0 where
@@ -26,7 +26,7 @@ module _ (R : Mark → Mark → Type 0) where
 
   module _ (then : (x y z : Mark) → R x y → R y z → R x z) (old now next : List Mark) (seen : List ℕ) (at : ℕ) (v : IsVisited R old now seen) (c : IsChangedAt R at now next) where
     later : (k : ℕ) → R (mark_in old k) (mark_in now k) → R (mark_in old k) (mark_in next k)
-    later k r = elim (numbers_differ k at) [
+    later k r = elim (cases_eq k at) [
       | inl e ↦ then (mark_in old k) (mark_in now k) (mark_in next k) r (subst (λ j. R (mark_in now j) (mark_in next j)) (sym e) c.own)
       | inr d ↦ subst (R (mark_in old k)) (sym (c.others k d)) r
     ]
@@ -42,7 +42,7 @@ module _ (R : Mark → Mark → Type 0) where
             | inl d ↦ later k (v.done k d)
             | inr d ↦ subst (λ j. R (mark_in old j) (mark_in next j)) (sym (has_one k at d)) here
           ];
-          left = λ k. elim (numbers_differ k at) [
+          left = λ k. elim (cases_eq k at) [
             | inl e ↦ inr (subst (λ j. R (mark_in old j) (mark_in next j)) (sym e) here)
             | inr d ↦ elim (v.left k) [ inl e ↦ inl (c.others k d ∙ e) | inr r ↦ inr (later k r) ]
           ];

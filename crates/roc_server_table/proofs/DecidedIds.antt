@@ -14,10 +14,10 @@ use Rattle.roc_base.specs.TxnId.{is_txn}
 use Rattle.roc_depgraph.proofs.Listed.{has_listed, listed_has}
 use Rattle.roc_server_rows.specs.declared.rows.Row.{Row}
 use Rattle.roc_server_rows.specs.declared.marks.Mark.{Mark}
-use Rattle.roc_server_rows.specs.Rows.{row_in, is_told, IsRowTable}
+use Rattle.roc_server_rows.specs.Rows.{row_in, IsRowTable}
 use Rattle.roc_server_rows.specs.Marks.{no_mark, mark_in, AreMarked}
 use Rattle.roc_server_table.specs.Inner.Kept.{decided_of}
-use Rattle.roc_server_rows.proofs.Alive.{row_within}
+use Rattle.roc_server_rows.proofs.Alive.{row_within, told_live}
 
 -- ---- by number
 
@@ -91,11 +91,8 @@ module _ (numbers : List (TxnId × ℕ)) (rows : List Row) (stamp : ℕ) (t : Is
   abbrev ids : List TxnId
   ids = decided_of rows marks
 
-  told_turn : (n : ℕ) → is_told (row_in rows n) ≡ true → 0 < (row_in rows n).turn
-  told_turn n h = grind (arith, nat_tests)
-
   pub decided_live : (n : ℕ) → (mark_in marks n).decided ≡ true → 0 < (row_in rows n).birth
-  decided_live n d = t.told_live n (told_turn n (a.decided_told n d))
+  decided_live n d = told_live numbers rows stamp t n (a.decided_told n d)
 
   pub decided_within : (n : ℕ) → (mark_in marks n).decided ≡ true → n < length rows
   decided_within n d = row_within rows n (decided_live n d)

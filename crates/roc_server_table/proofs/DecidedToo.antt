@@ -1,6 +1,6 @@
 -- Transactions are decided too: their rows are marked
 use Rattle.std.proofs.Common.{◌≡◌, ◌≢◌, ◌⊎◌, ◌<◌, ◌+◌, inl, inr, ℕ, Bool, true, false, List, [], ◌∷◌, ◌++◌, length, filter, take, get_or, set, Option, Some, None, refl, sym, ap, ◌∙◌, subst, arith}
-use Rattle.std.proofs.lemmas.Bool.{false≢true}
+use Rattle.std.proofs.lemmas.Bool.{false≢true, cases_eq}
 use Rattle.std.proofs.lemmas.Bool.Decides.{nat_tests}
 use Rattle.std.proofs.lemmas.List.{get_or-set_same, get_or-set_other}
 use Rattle.std.specs.Prelude.{nat_lt}
@@ -25,7 +25,7 @@ use Rattle.roc_server_rows.specs.declared.marks.Mark.{Mark}
 use Rattle.roc_server_rows.specs.Rows.{row_in, is_alive, is_told, row_links, AreWhole}
 use Rattle.roc_server_rows.specs.Marks.{no_mark, mark_in, is_open, AreMarked, AreOpen, WaitsOn}
 use Rattle.roc_server_table.specs.Inner.Kept.{decided_of, AreDecidedToo, IsDecidedAt, IsKept}
-use Rattle.roc_server_rows.proofs.Alive.{numbers_differ, alive_live, row_within}
+use Rattle.roc_server_rows.proofs.Alive.{alive_live, row_within}
 use Rattle.roc_server_table.proofs.DecidedIds.{decided_at, decided_listed, listed_decided, mark_within}
 use Rattle.roc_server_rows.proofs.OpenRows.{open_fewer}
 use Rattle.roc_server_rows.proofs.DecidedRows.{closed_decided, link_named, waits_undecided}
@@ -46,7 +46,7 @@ module _ (at : ℕ) (ms : List Mark) (within : at < length ms) where
   pub set_decided : IsDecidedAt at ms (set ms at (record { decided = true; waits = (mark_in ms at).waits }))
   set_decided =
       record {
-        waits = λ n. elim (numbers_differ n at) [
+        waits = λ n. elim (cases_eq n at) [
           | inl e ↦ subst (λ j. (mark_in (set ms at too) j).waits ≡ (mark_in ms j).waits) (sym e) (ap (λ (m : Mark). m.waits) own)
           | inr d ↦ ap (λ (m : Mark). m.waits) (other n d)
         ];
@@ -75,7 +75,7 @@ module _ (numbers : List (TxnId × ℕ)) where
       record {
         each = each;
         waits = d.waits;
-        stay = λ n h. elim (numbers_differ n at) [
+        stay = λ n h. elim (cases_eq n at) [
           | inl e ↦ subst (λ j. (mark_in new j).decided ≡ true) (sym e) (d.own (mark_within old at (ap (λ j. (mark_in old j).decided) (sym e) ∙ h)))
           | inr x ↦ d.others n x ∙ h
         ];
@@ -83,7 +83,7 @@ module _ (numbers : List (TxnId × ℕ)) where
             let two : Some at ≡ Some n = sym there ∙ (ap (λ q. lookup (is_txn q) numbers) (sym (has_one t id h)) ∙ here) in
             let one : at ≡ n = cc in
             subst (λ j. (mark_in new j).decided ≡ true) one (d.own (omega (arith, one, w)));
-        only = λ n h. elim (numbers_differ n at) [
+        only = λ n h. elim (cases_eq n at) [
           | inl e ↦ inr (id, inl refl, there ∙ ap Some (sym e))
           | inr x ↦ inl (sym (d.others n x) ∙ h)
         ];

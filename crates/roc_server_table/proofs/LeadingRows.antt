@@ -1,6 +1,6 @@
 -- Which rows lead to which as rows change, and the bits that say so
 use Rattle.std.proofs.Common.{◌≡◌, ◌≢◌, ◌<◌, ◌+◌, inl, inr, ℕ, Bool, true, false, cond, List, [], ◌∷◌, ◌++◌, length, take, get_or, map, filter, Some, refl, sym, ap, ◌∙◌, subst, arith}
-use Rattle.std.proofs.lemmas.Bool.{false≢true}
+use Rattle.std.proofs.lemmas.Bool.{false≢true, cases_eq}
 use Rattle.std.proofs.lemmas.Bool.Decides.{nat_tests}
 use Rattle.std.specs.Prelude.{nat_eq}
 use Rattle.roc_sequence.specs.Lists.{Has}
@@ -16,15 +16,9 @@ use Rattle.roc_server_rows.specs.Rows.{row_in, is_alive, is_told, Grows, AreWhol
 use Rattle.roc_server_rows.specs.Except.{is_except, rows_but}
 use Rattle.roc_server_rows.specs.Marks.{IsLearnt, IsOut, IsTakenBack}
 use Rattle.roc_server_table.specs.Inner.Leading.{live_numbers, AreBits, LeadsBut, LeadsTo}
-use Rattle.roc_server_rows.proofs.Alive.{numbers_differ}
 use Rattle.roc_server_rows.proofs.Excepted.{alive_but, but_has, has_but, told_but}
 use Rattle.roc_server_rows.proofs.KeptMarks.{born_link}
-
-told_turn : (r : Row) → is_told r ≡ true → 0 < r.turn
-told_turn r h = grind (arith, nat_tests)
-
-pub no_bits : (bits : BitTable) → ((n m : ℕ) → bit_at bits n m ≡ false) → AreBits [] bits
-no_bits bits none = record { only = λ n m b. absurd (false≢true (sym (none n m) ∙ b)); all = λ n m x. absurd (false≢true x.told) }
+use Rattle.roc_server_rows.proofs.Alive.{told_live}
 
 pub same_bits : (rows : List Row) (bits bits2 : BitTable) → AreBits rows bits → AreSameBits bits bits2 → AreBits rows bits2
 same_bits rows bits bits2 a same = record { only = λ n m b. a.only n m (sym (same n m) ∙ b); all = λ n m x. same n m ∙ a.all n m x }
@@ -67,7 +61,7 @@ module _ (p : Parts) (new : List Row) (stamp : ℕ) (t : AreWhole p) (g : Grows 
       record {
         only = λ n m b.
             let x = a.only n m b in
-            stays_leading old new n (g.rows n (t.told_live n (told_turn (row_in old n) x.told))) m x (g.links x.link (born n x.link x.has) ∙ x.alive);
+            stays_leading old new n (g.rows n (told_live p.numbers.entries old p.stamp t n x.told)) m x (g.links x.link (born n x.link x.has) ∙ x.alive);
         all = λ n m x.
             let row : row_in new n ≡ row_in old n = g.told n x.told in
             let has : Has x.link (row_in old n).names = subst (λ (r : Row). Has x.link r.names) row x.has in
@@ -109,11 +103,11 @@ module _ (p q : Parts) (at : ℕ) (l : IsLearnt p q at) (t : AreWhole p) where
   learnt_bits bits bits2 a put =
       let mid = mid_bits bits a in
       record {
-        only = λ n m b. elim (numbers_differ n at) [
+        only = λ n m b. elim (cases_eq n at) [
           | inl e ↦ subst (λ j. LeadsTo new j m) (sym e) (live_named m (sym (put.own m) ∙ (ap (λ j. bit_at bits2 j m) (sym e) ∙ b)))
           | inr d ↦ (from_mid n m (mid.only n m (sym (put.others n m d) ∙ b))).1
         ];
-        all = λ n m x. elim (numbers_differ n at) [
+        all = λ n m x. elim (cases_eq n at) [
           | inl e ↦ ap (λ j. bit_at bits2 j m) e ∙ (put.own m ∙ named_live m (subst (λ j. LeadsTo new j m) e x))
           | inr d ↦ put.others n m d ∙ mid.all n m (to_mid n m d x)
         ];
@@ -141,7 +135,7 @@ module _ (n : ℕ) (old new : List Row) (b : IsTakenBack n old new) where
   pub back_bits : (bits bits2 : BitTable) → AreBits old bits → IsRowCleared n bits bits2 → AreBits new bits2
   back_bits bits bits2 a cleared =
       record {
-        only = λ k m h. elim (numbers_differ k n) [
+        only = λ k m h. elim (cases_eq k n) [
           | inl e ↦ absurd (false≢true (sym (cleared.own m) ∙ (ap (λ j. bit_at bits2 j m) (sym e) ∙ h)))
           | inr d ↦ (let x = a.only k m (sym (cleared.others k m d) ∙ h) in stays_leading old new k (b.others k d) m x (b.links x.link ∙ x.alive))
         ];
@@ -168,9 +162,9 @@ module _ (n : ℕ) (old new : List Row) (o : IsOut n old new) where
   pub out_bits : (bits bits2 : BitTable) → AreBits old bits → IsEnded n bits bits2 → AreBits new bits2
   out_bits bits bits2 a ends =
       record {
-        only = λ k m h. elim (numbers_differ k n) [
+        only = λ k m h. elim (cases_eq k n) [
           | inl e ↦ absurd (false≢true (sym (ends.row m) ∙ (ap (λ j. bit_at bits2 j m) (sym e) ∙ h)))
-          | inr d ↦ elim (numbers_differ m n) [
+          | inr d ↦ elim (cases_eq m n) [
             | inl e ↦ absurd (false≢true (sym (ends.column k) ∙ (ap (bit_at bits2 k) (sym e) ∙ h)))
             | inr f ↦ out_new k m d f (a.only k m (sym (ends.others k m d f) ∙ h))
           ]
@@ -215,7 +209,7 @@ cut_but n old new is =
 pub but_bits : (n : ℕ) (old new : List Row) (bits bits2 : BitTable) → LeadsBut n old new → AreBits old bits → IsColumnCleared n bits bits2 → AreBits new bits2
 but_bits n old new bits bits2 b a cleared =
     record {
-      only = λ k m h. elim (numbers_differ m n) [
+      only = λ k m h. elim (cases_eq m n) [
         | inl e ↦ absurd (false≢true (sym (cleared.own k) ∙ (ap (bit_at bits2 k) (sym e) ∙ h)))
         | inr d ↦ b.all k m d (a.only k m (sym (cleared.others k m d) ∙ h))
       ];

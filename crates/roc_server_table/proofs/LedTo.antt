@@ -1,9 +1,8 @@
 -- What entries lead to, by bits
 use Rattle.std.proofs.Common.{◌≡◌, ◌+◌, ◌<◌, inl, inr, ℕ, true, List, [], ◌∷◌, ◌++◌, length, take, get_or, filter, Option, Some, None}
-use Rattle.std.proofs.Common.{is_some, unwrap_or, append_assoc, append-nil, refl, sym, ap, ◌∙◌, subst, arith}
+use Rattle.std.proofs.Common.{is_some, unwrap_or, append_assoc, append-nil, refl, sym, ap, ◌∙◌, subst}
 use Rattle.std.proofs.Common.{Result, Ok, Err}
 use Rattle.std.proofs.lemmas.Bool.{false≢true}
-use Rattle.std.proofs.lemmas.Bool.Decides.{nat_tests}
 use Rattle.std.specs.List.{list_any}
 use Rattle.std.specs.Map.{lookup}
 use Rattle.std.specs.Prelude.{IfOk, Vec}
@@ -30,7 +29,7 @@ use Rattle.roc_server_rows.specs.declared.rows.Row.{Row}
 use Rattle.roc_server_rows.specs.declared.rows.Parts.{Parts}
 use Rattle.roc_server_rows.specs.Rows.{row_in, is_told, row_links, AreWhole}
 use Rattle.roc_server_table.specs.Inner.Leading.{start_of, starts_of, told_ids, AreBits}
-use Rattle.roc_server_rows.proofs.Alive.{alive_live}
+use Rattle.roc_server_rows.proofs.Alive.{alive_live, told_live}
 use Rattle.roc_server_rows.proofs.DecidedRows.{link_named, named_link}
 use Rattle.roc_server_table.proofs.KnownRows.{absent_links_known, links_told}
 
@@ -140,7 +139,7 @@ module _ (p : Parts) (t : AreWhole p) (bits : BitTable) (a : AreBits p.rows.item
         let k = from_has_filter (λ n. is_told (row_in rows n)) w.0 ns w.1 in
         let f = r.only w.0 k.0 in
         let d = has_start numbers edges f.start f.among in
-        let here : lookup (is_txn (id_at w.0)) numbers ≡ Some w.0 = t.each w.0 (told_live w.0 k.1) in
+        let here : lookup (is_txn (id_at w.0)) numbers ≡ Some w.0 = t.each w.0 (told_live numbers rows p.stamp t w.0 k.1) in
         let known : IsKnown (row_links rows) u = subst (IsKnown (row_links rows)) w.2 (links_told numbers rows p.stamp t (id_at w.0) w.0 here ∙ k.1) in (
           known,
           record {
@@ -149,9 +148,6 @@ module _ (p : Parts) (t : AreWhole p) (bits : BitTable) (a : AreBits p.rows.item
             from = subst (λ v. ReachesOrIs Before v d.0.from) w.2 (subst (ReachesOrIs Before (id_at w.0)) (t.found d.0.from f.start d.2).is (chain_of f.start w.0 f.leads));
           },
         )
-      where
-        told_live : (n : ℕ) → is_told (row_in rows n) ≡ true → 0 < (row_in rows n).birth
-        told_live n h = let turn : 0 < (row_in rows n).turn = grind (arith, nat_tests) in t.told_live n turn
 
     pub met : (u : TxnId) → IsKnownAndLedTo (row_links rows) edges u → IsListed is_txn (told_ids rows ns) u
     met u (known, l) =

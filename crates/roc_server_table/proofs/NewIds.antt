@@ -1,7 +1,6 @@
 -- The transactions of rows that are newly decided
 use Rattle.std.proofs.Common.{◌≡◌, ◌<◌, ◌∙◌, ℕ, Bool, true, false, List, [], ◌∷◌, length, map, Option, Some, None, inl, inr, refl, sym, ap, subst, arith}
 use Rattle.std.proofs.lemmas.Bool.{false≢true}
-use Rattle.std.proofs.lemmas.Bool.Decides.{nat_tests}
 use Rattle.std.specs.Map.{lookup}
 use Rattle.roc_sequence.specs.Lists.{Has}
 use Rattle.roc_sequence.specs.Places.{IsListed, NoneTwice}
@@ -20,11 +19,11 @@ use Rattle.roc_server_rows.specs.Rows.{row_in, is_told, row_links, AreWhole}
 use Rattle.roc_server_rows.specs.LinksBut.{links_but}
 use Rattle.roc_server_rows.specs.Except.{IsExceptLive}
 use Rattle.roc_server_rows.specs.Marks.{mark_in, AreNewRowsBut, AreSameDecided, EachOnce}
-use Rattle.roc_server_table.specs.Inner.Kept.{Settles}
-use Rattle.roc_server_table.specs.Inner.Kept.{decided_of, IsKept}
+use Rattle.roc_server_table.specs.Inner.Kept.{decided_of, IsKept, Settles}
 use Rattle.roc_server_table.proofs.DecidedIds.{decided_at, decided_same, decided_within, listed_decided}
 use Rattle.roc_server_rows.proofs.Ended.{absent_links}
 use Rattle.roc_server_table.proofs.KnownRows.{absent_links_known, links_told}
+use Rattle.roc_server_rows.proofs.Alive.{told_live}
 
 -- ---- links to the row of a transaction are left out
 
@@ -54,11 +53,8 @@ module _ (p : Parts) (marks : List Mark) (k : IsKept p marks) (except : Option �
   abbrev id_at : ℕ → TxnId
   id_at n = (row_in rows n).id
 
-  live : (n : ℕ) → is_told (row_in rows n) ≡ true → 0 < (row_in rows n).birth
-  live n h = let turn : 0 < (row_in rows n).turn = grind (arith, nat_tests) in k.whole.told_live n turn
-
   here : (n : ℕ) → Has n ns → lookup (is_txn (id_at n)) numbers ≡ Some n
-  here n h = k.whole.each n (live n (new.only n h).told)
+  here n h = k.whole.each n (told_live numbers rows p.stamp k.whole n (new.only n h).told)
 
   pub all_new_ids : AreAllNew (IsListed is_txn (decided_of rows marks)) (links_but except rows) (map (λ n. (row_in rows n).id) ns)
   all_new_ids = record { only = only; all = λ t u. all t u (lookup (is_txn t) numbers) refl }

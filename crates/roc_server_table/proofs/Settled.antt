@@ -1,6 +1,6 @@
 -- The entries that name a transaction are done: its list stays, where it has one, and else its row ends
 use Rattle.std.proofs.Common.{◌≡◌, inl, inr, ℕ, Bool, true, false, not, cond, List, [], ◌∷◌, map, filter, Some, None, refl, sym, ap, ◌∙◌, subst, arith}
-use Rattle.std.proofs.lemmas.Bool.{false≢true}
+use Rattle.std.proofs.lemmas.Bool.{false≢true, cases_eq}
 use Rattle.std.proofs.lemmas.List.{length-map}
 use Rattle.std.specs.Map.{lookup}
 use Rattle.roc_base.specs.declared.id.TxnId.{TxnId}
@@ -15,7 +15,6 @@ use Rattle.roc_server_rows.specs.Rows.{row_in, is_told, followed, rows_in_turn, 
 use Rattle.roc_server_rows.specs.Except.{row_but, rows_but}
 use Rattle.roc_server_rows.specs.Marks.{mark_in, AreMarked, EndsAt, WakesAll}
 use Rattle.roc_server_table.specs.Inner.Kept.{Settles}
-use Rattle.roc_server_rows.proofs.Alive.{numbers_differ}
 use Rattle.roc_server_rows.proofs.Looked.{here_list}
 use Rattle.roc_server_rows.proofs.Excepted.{known_of_but, links_of_but, row_at_but}
 use Rattle.roc_server_rows.proofs.EndedRows.{one_found}
@@ -89,7 +88,7 @@ module _ (numbers : List (TxnId × ℕ)) (rows : List Row) (stamp : ℕ) (t : Is
         undecided false q = refl
 
         same : (n : ℕ) → (mark_in marks2 n).decided ≡ (mark_in marks n).decided
-        same n = elim (numbers_differ n at) [
+        same n = elim (cases_eq n at) [
           | inl z ↦ e.own n (here ∙ ap Some (sym z)) ∙ sym (ap (λ j. (mark_in marks j).decided) z ∙ undecided (mark_in marks at).decided refl)
           | inr z ↦ e.decided n (λ q. z (one_found at n (lookup (is_txn id) numbers) here q))
         ]
