@@ -8,10 +8,11 @@ use Rattle.roc_server_rows.specs.declared.rows.Row.{Row}
 use Rattle.roc_server_rows.specs.declared.marks.Mark.{Mark}
 use Rattle.roc_server_rows.specs.declared.rows.Parts.{Parts}
 use Rattle.roc_server_rows.specs.Rows.{row_in, is_alive, is_told, Grows}
+use Rattle.roc_server_rows.specs.Except.{no_link}
 use Rattle.roc_server_rows.specs.LinksBut.{links_but}
 
 abbrev pub no_mark : Mark
-no_mark = record { decided = false; waits = record { at = 0; birth = 0 } }
+no_mark = record { decided = false; waits = no_link }
 
 abbrev pub mark_in : List Mark → ℕ → Mark
 mark_in marks n = slice_index_or marks n no_mark

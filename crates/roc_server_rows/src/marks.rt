@@ -4,12 +4,11 @@ ghost use Rattle.std.specs.List.{AllByRecursion};
 ghost use Rattle.roc_base.specs.declared.id.TxnId.{TxnId as Id};
 ghost use Rattle.roc_server_rows.specs.Rows.{row_in, is_alive, is_told, IsRowTable};
 ghost use Rattle.roc_server_rows.specs.Except.{is_except, link_but, rows_but, IsExceptLive};
-ghost use Rattle.roc_server_rows.specs.Inner.Marks.{is_in_question, AreInQuestion, FindsNew};
-ghost use Rattle.roc_server_rows.specs.Marks.{no_mark, mark_in, is_open, AreMarked, AreNewRowsBut, AreOpen, AreSameDecided, HasWaiting};
-ghost use Rattle.roc_server_rows.specs.Inner.Marks.{Holds, HoldsAll, HoldsSome, IsHeldBy, IsAwake, IsChangedAt, IsHeldThrough, IsWokenAt, WaitsNewly, WakesFor};
-ghost use Rattle.roc_server_rows.specs.Marks.{IsOpen, Wakes, WakesAll};
+ghost use Rattle.roc_server_rows.specs.Marks.{no_mark, mark_in, is_open, AreMarked, AreNewRowsBut, AreOpen, AreSameDecided, HasWaiting, IsOpen, Wakes, WakesAll};
+ghost use Rattle.roc_server_rows.specs.Inner.Marks.{is_in_question, AreInQuestion, FindsNew, Holds, HoldsAll, HoldsSome, IsHeldBy, IsHeldThrough, WaitsNewly};
+ghost use Rattle.roc_server_rows.specs.Inner.Marks.{IsAwake, IsChangedAt, IsWokenAt, WakesFor};
 
-use crate::rows::{Link, Row};
+use crate::rows::{Link, Row, no_link};
 use roc_base::NoMemory;
 use std::alloc::Global;
 
@@ -71,7 +70,7 @@ fn held_through(rows: &[Row], marks: &[Mark], except: Option<usize>, link: Link)
     if is_followed(rows, except, link) {
         return held_at(rows, marks, except, link);
     }
-    Link { at: 0, birth: 0 }
+    no_link()
 }
 
 // The same of a link that is followed.
@@ -102,7 +101,7 @@ pub fn no_mark() -> Mark
 {
     Mark {
         decided: false,
-        waits: Link { at: 0, birth: 0 },
+        waits: no_link(),
     }
 }
 
@@ -114,7 +113,7 @@ fn held_by(rows: &[Row], marks: &[Mark], except: Option<usize>, at: usize) -> Li
 {
     match rows.get(at) {
         Some(row) => held_among(rows, marks, except, at, row.names.as_slice()),
-        None => Link { at: 0, birth: 0 },
+        None => no_link(),
     }
 }
 
@@ -137,7 +136,7 @@ fn held_among(
             return waits;
         }
     }
-    Link { at: 0, birth: 0 }
+    no_link()
 }
 
 // Looks at a row in question, and marks at what it waits, where it does.
@@ -339,7 +338,7 @@ fn wake_one(mark: &mut Mark, at: usize)
     ensures woken { (mark.new.waits.birth ≡ 0) ⊎ ((mark.new.waits ≡ mark.old.waits) × (mark.old.waits.at ≢ at)) }
 {
     if mark.waits.at == at {
-        mark.waits = Link { at: 0, birth: 0 };
+        mark.waits = no_link();
     }
 }
 
@@ -357,7 +356,7 @@ fn awaken(marks: &mut [Mark], place: usize)
     ensures { IsChangedAt IsAwake place marks.old marks.new }
 {
     if place < marks.len() {
-        marks[place].waits = Link { at: 0, birth: 0 };
+        marks[place].waits = no_link();
     }
 }
 

@@ -9,6 +9,7 @@ ghost use Rattle.roc_server_rows.specs.Changes.{lists_ended, untold, with_list};
 ghost use Rattle.roc_server_rows.specs.Marks.{IsLearnt, IsOut, IsTakenBack};
 ghost use Rattle.roc_step.specs.Links.{all_entries, least_naming};
 ghost use Rattle.roc_server_rows.specs.Inner.Rows.{GrowsTo, IsLinkFor, told_entries, told_list};
+ghost use Rattle.roc_server_rows.specs.Except.{no_link};
 ghost use Rattle.roc_server_rows.specs.Rows.{row_in, AreNamed, Grows, IsRowOf, IsRowTable, AreWhole, followed, known_of, lists_by};
 
 use crate::free_rows::{FreeRows, no_free, place};
@@ -23,6 +24,13 @@ use std::collections::HashMap;
 pub struct Link {
     pub at: usize,
     pub birth: u64,
+}
+
+/// A link of nothing.
+pub(crate) fn no_link() -> Link
+    ensures { result ≡ no_link }
+{
+    Link { at: 0, birth: 0 }
 }
 
 /// What is kept of a transaction. A row without a birth is free; one without a turn has no list.
@@ -204,7 +212,7 @@ fn link_of(parts: &mut Parts, id: TxnId, done: &[TxnId]) -> Result<Link, NoMemor
     ensures link { IfOk result (IsLinkFor parts.new.rows.items parts.new.stamp id (is_listed is_txn done.now id)) }
 {
     if is_among_rising(done, id) {
-        return Ok(Link { at: 0, birth: 0 });
+        return Ok(no_link());
     }
     link_to(parts, id)
 }

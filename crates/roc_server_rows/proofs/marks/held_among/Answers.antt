@@ -1,5 +1,6 @@
-use Rattle.std.proofs.Common.{get_or, refl, arith}
+use Rattle.std.proofs.Common.{get_or, ap, arith}
 use Rattle.std.proofs.lemmas.List.{get_or_default}
+use Rattle.roc_server_rows.specs.declared.rows.Link.{Link}
 use Rattle.roc_server_rows.specs.Except.{no_link}
 use Rattle.roc_server_rows.proofs.ExceptedMarks.{but_held_none, but_held_one, but_links_more}
 use Rattle.roc_server_rows.proofs.marks.held_among.Goals as goal
@@ -20,5 +21,5 @@ loop-link-preserved c =
 
 pub returns : goal.returns
 returns c =
-    but_held_none c.args.except c.args.rows.now c.args.marks.now c.args.at c.args.links.now c.loop-link.link-index no_link c.requires.links c.loop-link.invariant
-    (omega (arith, c.loop-link-test.false)) refl
+    but_held_none c.args.except c.args.rows.now c.args.marks.now c.args.at c.args.links.now c.loop-link.link-index c.no_link.result c.requires.links c.loop-link.invariant
+    (omega (arith, c.loop-link-test.false)) (ap (λ (l : Link). l.birth) c.no_link.ensures)
