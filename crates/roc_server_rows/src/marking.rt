@@ -9,13 +9,13 @@ ghost use Rattle.roc_server_rows.specs.Except.{link_but, no_link, row_but, rows_
 ghost use Rattle.roc_server_rows.specs.Inner.Marks.{Drops};
 ghost use Rattle.roc_server_rows.specs.Marks.{AreMarked, AreOpen, EndsAt, HasWaiting, IsOut, MayEnd, Wakes};
 
-use crate::marks::{Mark, no_mark, wake};
-use crate::rows::{Link, Parts, Row, end, number_of};
+use crate::marks::{Mark, is_told, no_mark, wake};
+use crate::rows::{Link, Parts, Row, end, no_link, number_of};
 use roc_base::TxnId;
 use roc_sequence::Sequence;
 
 /// Ends the row of a transaction that is decided or has no list. What waited at it is in question then. Takes no memory, and looks at no other row,
-/// but at the marks of those that are undecided.
+/// but at the marks of those that are undecided where it has no list.
 pub fn end_marked(parts: &mut Parts, marks: &mut [Mark], id: TxnId)
     requires whole { AreWhole parts.old }
     requires marked { AreMarked parts.old.rows.items marks.old }
@@ -31,22 +31,35 @@ pub fn end_marked(parts: &mut Parts, marks: &mut [Mark], id: TxnId)
 {
     match number_of(&parts.numbers, id) {
         Some(at) => {
+            drop_mark(&parts.rows, marks, &parts.undecided, at);
             end(parts, id);
-            drop_mark(marks, &parts.undecided, at);
         }
         None => end(parts, id),
     }
 }
 
 // Takes back the mark of a row, and wakes those that wait at it.
-fn drop_mark(marks: &mut [Mark], undecided: &[usize], at: usize)
-    requires { HasWaiting marks.old undecided.now }
+fn drop_mark(rows: &[Row], marks: &mut [Mark], undecided: &[usize], at: usize)
+    requires marked { AreMarked rows.now marks.old }
+    requires waiting { HasWaiting marks.old undecided.now }
     ensures { Drops at marks.old marks.new }
 {
-    wake(marks, undecided, at);
+    wake_at_row(rows, marks, undecided, at);
     if at < marks.len() {
         marks[at] = no_mark();
     }
+}
+
+// Those that wait at a row wait no longer. At one with a list none waits, so it looks at no mark then.
+fn wake_at_row(rows: &[Row], marks: &mut [Mark], undecided: &[usize], at: usize)
+    requires marked { AreMarked rows.now marks.old }
+    requires waiting { HasWaiting marks.old undecided.now }
+    ensures { Wakes at marks.old marks.new }
+{
+    if is_told(rows, at) {
+        return;
+    }
+    wake(marks, undecided, at);
 }
 
 /// A row got a list: it is undecided, and what waited at it is in question. Takes no memory.
@@ -95,7 +108,7 @@ fn cut_link(link: Link, at: usize) -> Link
     ensures { result ≡ link_but (Some at) link }
 {
     if link.at == at {
-        return Link { at: 0, birth: 0 };
+        return no_link();
     }
     link
 }

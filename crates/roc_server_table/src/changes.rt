@@ -321,7 +321,7 @@ fn settle_at(parts: &mut Parts, marks: &mut [Mark], id: TxnId, at: usize)
     end_marked(parts, marks, id);
 }
 
-// Ends the rows of transactions that are decided. Takes no memory, and looks at no other decided list.
+// Ends the rows of transactions that are decided. Takes no memory, and looks at no other list.
 pub(crate) fn end_all(parts: &mut Parts, marks: &mut [Mark], bits: &mut BitRows, ids: &[TxnId])
     requires kept { AreKept parts.old marks.old bits.old }
     requires decided { (t : Id) → IsListed is_txn ids.now t → is_listed is_txn (decided_of parts.old.rows.items marks.old) t ≡ true }

@@ -178,7 +178,7 @@ impl ListTable {
     }
 
     /// Takes the lists of decided transactions out. Each entry that names one of them is done from then on. Takes no memory, and looks at no other
-    /// decided list.
+    /// list.
     pub fn forget(&mut self, ids: &[TxnId])
         requires { (t : Id) → IsListed is_txn ids.now t → IsListed is_txn self.old.decided t }
         ensures known { self.new.known ≡ filter (λ k. not (is_listed is_txn ids.now k.of)) self.old.known }

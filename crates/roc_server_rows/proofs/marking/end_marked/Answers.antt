@@ -1,8 +1,8 @@
-use Rattle.std.proofs.Common.{◌≡◌, ◌∙◌, ℕ, List, None, Some, sym, ap, subst}
+use Rattle.std.proofs.Common.{◌≡◌, ℕ, List, None, Some, sym, subst}
 use Rattle.std.specs.Prelude.{Vec}
 use Rattle.std.specs.declared.alloc.Global.{Global}
 use Rattle.roc_server_rows.specs.declared.rows.Row.{Row}
-use Rattle.roc_server_rows.specs.Marks.{AreOpen, HasWaiting}
+use Rattle.roc_server_rows.specs.Marks.{AreMarked, AreOpen, HasWaiting}
 use Rattle.roc_server_rows.proofs.OpenRows.{open_out}
 use Rattle.std.specs.Map.{lookup}
 use Rattle.roc_base.specs.TxnId.{is_txn}
@@ -18,8 +18,10 @@ returns-in-Some-clause-marked c =
     (c.requires.may c.in-Some.at here)
 
 pub drop_mark-requires : goal.drop_mark-requires
-drop_mark-requires c =
-    subst (λ (ns : List ℕ). HasWaiting c.args.marks.now ns) (sym (c.deref.ensures.value ∙ ap (λ (v : Vec ℕ Global). v.items) c.end.ensures.undecided)) c.requires.undecided.waiting
+drop_mark-requires c = record {
+  marked = subst (λ (rs : List Row). AreMarked rs c.args.marks.now) (sym c.deref.ensures.value) c.requires.marked;
+  waiting = subst (λ (ns : List ℕ). HasWaiting c.args.marks.now ns) (sym c.deref-in-Some.ensures.value) c.requires.undecided.waiting;
+}
 
 pub returns-in-Some-clause-undecided : goal.returns-in-Some-clause-undecided
 returns-in-Some-clause-undecided c =
