@@ -1,14 +1,14 @@
-pub mod OneMore
-pub mod NamedMissing
-pub mod GrownLacks
+mod OneMore
+mod NamedMissing
+mod GrownLacks
 pub mod InGroups
-pub mod NextList
-pub mod Taking
-pub mod Releases
-pub mod ShorterGroups
-pub mod Regrouped
-pub mod Counted
-pub mod PutInPlace
-pub mod Orders
-pub mod SideBySide
+mod NextList
+mod Taking
+mod Releases
+mod ShorterGroups
+mod Regrouped
+mod Counted
+mod PutInPlace
+mod Orders
+mod SideBySide
 pub mod OpenFetches

@@ -1,9 +1,9 @@
 //! Who waits for which list.
-ghost use Rattle.std.specs.Prelude.{◌≡◌, ◌+◌, ◌<◌, ◌≤◌, length, not, filter, vec_len, vec_capacity};
+ghost use Rattle.std.specs.Prelude.{◌≡◌, ◌+◌, ◌<◌, ◌≤◌, [], length, not, filter, vec_len, vec_capacity, IsOk, OnOk, OnErr};
 ghost use Rattle.std.specs.List.Sorted.{IsStrictlySortedBy};
 ghost use Rattle.roc_base.specs.TxnId.{is_txn, txn_cmp, txn_lt};
 ghost use Rattle.roc_sequence.specs.Places.{is_listed};
-ghost use Rattle.roc_step.specs.Waits.{askers_of, is_asked_before, is_asker_before, with_asked, with_asker, without_askers_of, without_fetch_of, AreInOrder};
+ghost use Rattle.roc_step.specs.Waits.{askers_of, is_asked_before, is_asker_before, none_waiting, shard_asked, with_asked, with_asker, without_asked, without_askers_of, without_fetch_of, AreInOrder};
 ghost use Rattle.roc_await.specs.Inner.Apart.{is_apart};
 
 use roc_base::{NoMemory, Shard, TxnId};
@@ -37,12 +37,6 @@ impl Model for Waits {
 }
 
 impl Waits {
-    ghost use Rattle.std.specs.Prelude.{◌≡◌, ◌+◌, ◌<◌, ◌≤◌, [], not, filter, IsOk, OnOk, OnErr};
-    ghost use Rattle.std.specs.List.Sorted.{IsStrictlySortedBy};
-    ghost use Rattle.roc_base.specs.TxnId.{is_txn, txn_cmp};
-    ghost use Rattle.roc_sequence.specs.Places.{is_listed};
-    ghost use Rattle.roc_step.specs.Waits.{askers_of, none_waiting, shard_asked, with_asked, with_asker, without_asked, without_askers_of, without_fetch_of};
-
     /// Nothing was asked for, and nobody has asked. Takes no memory.
     pub fn new(alloc: Global) -> Waits
         ensures waiting { result.waiting ≡ none_waiting }

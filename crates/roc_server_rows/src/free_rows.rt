@@ -13,15 +13,15 @@ const END: usize = usize::MAX;
 /// which takes its place once it is empty and a quarter of all rows have ended. So numbers come back many at once, and there are at most a third more
 /// rows than were ever in use at one time. Nothing is assumed of a chain: a row is taken only where it is free.
 #[derive(Clone, Copy)]
-pub struct FreeRows {
-    pub next: usize,
-    pub ended: usize,
+pub(crate) struct FreeRows {
+    pub(crate) next: usize,
+    pub(crate) ended: usize,
     /// How many have ended since the chains were last exchanged.
-    pub many: usize,
+    pub(crate) many: usize,
 }
 
 /// There are none.
-pub fn no_free() -> FreeRows {
+pub(crate) fn no_free() -> FreeRows {
     FreeRows {
         next: END,
         ended: END,
@@ -30,7 +30,7 @@ pub fn no_free() -> FreeRows {
 }
 
 /// Puts a row where one is free, or behind the others, where there is room.
-pub fn place(rows: &mut Vec<Row>, free: &mut FreeRows, row: Row) -> usize
+pub(crate) fn place(rows: &mut Vec<Row>, free: &mut FreeRows, row: Row) -> usize
     requires { vec_len rows.old < vec_capacity rows.old }
     ensures { IsPlaced rows.old.items rows.new.items row result }
 {

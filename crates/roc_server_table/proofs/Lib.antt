@@ -1,17 +1,17 @@
-pub mod KnownRows
-pub mod Settled
-pub mod SameEdges
-pub mod FoundRows
-pub mod EntriesAmong
-pub mod DecidedIds
-pub mod FilledMarks
+mod KnownRows
+mod Settled
+mod SameEdges
+mod FoundRows
+mod EntriesAmong
+mod DecidedIds
+mod FilledMarks
 pub mod Unlearnt
-pub mod AllLearnt
-pub mod AllEnded
-pub mod TakenBack
-pub mod DecidedToo
-pub mod EndedIds
-pub mod NewIds
-pub mod LeadingRows
-pub mod LedTo
-pub mod RisingIds
+mod AllLearnt
+mod AllEnded
+mod TakenBack
+mod DecidedToo
+mod EndedIds
+mod NewIds
+mod LeadingRows
+mod LedTo
+mod RisingIds
