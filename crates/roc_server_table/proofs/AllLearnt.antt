@@ -19,7 +19,7 @@ use Rattle.roc_server_rows.specs.declared.rows.Row.{Row}
 use Rattle.roc_server_rows.specs.declared.rows.Parts.{Parts}
 use Rattle.roc_server_rows.specs.declared.marks.Mark.{Mark}
 use Rattle.roc_server_rows.specs.Changes.{untold, with_list, RowLists}
-use Rattle.roc_server_table.specs.Inner.Changes.{all_untold, with_lists}
+use Rattle.roc_server_table.specs.Inner.Changes.{all_untold}
 use Rattle.roc_server_table.specs.Inner.Rising.{rising_ids}
 use Rattle.roc_server_rows.specs.Rows.{known_of, row_links, lists_by}
 use Rattle.roc_server_table.specs.Inner.Kept.{decided_of, table_of, IsKept}
@@ -32,6 +32,10 @@ pub same_table : (old new : List Row) (marks marks2 : List Mark) → lists_by ne
 same_table old new marks marks2 lists decided = λ i. record { known = (lists i).known; links = (lists i).links; decided = rising_ids (decided i) }
 
 -- ---- one more
+
+-- several more lists stand behind the others; their entries that name one of these are not followed
+abbrev pub with_lists : (done : List TxnId) → (news : List KnownList) → RowLists → RowLists
+with_lists done news k = record { known = k.known ++ news; links = k.links ++ map (without_links (is_listed is_txn done)) news }
 
 pub none_more : (done : List TxnId) (k : RowLists) → k ≡ with_lists done [] k
 none_more done k = λ i. record { known = sym (append-nil k.known) i; links = sym (append-nil k.links) i }

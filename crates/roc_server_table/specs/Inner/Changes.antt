@@ -1,5 +1,5 @@
 -- How the lists of rows change by several
-use Rattle.std.specs.Prelude.{not, List, ◌++◌, map, filter}
+use Rattle.std.specs.Prelude.{not, List, map, filter}
 use Rattle.roc_sequence.specs.Places.{is_listed}
 use Rattle.roc_base.specs.declared.id.TxnId.{TxnId}
 use Rattle.roc_base.specs.TxnId.{is_txn}
@@ -7,10 +7,6 @@ use Rattle.roc_depgraph.specs.declared.known.KnownList.{KnownList}
 use Rattle.roc_depgraph.specs.Deps.{is_known}
 use Rattle.roc_step.specs.Links.{without_links}
 use Rattle.roc_server_rows.specs.Changes.{RowLists}
-
--- several more lists stand behind the others; their entries that name one of these are not followed
-abbrev pub with_lists : (done : List TxnId) → (news : List KnownList) → RowLists → RowLists
-with_lists done news k = record { known = k.known ++ news; links = k.links ++ map (without_links (is_listed is_txn done)) news }
 
 -- without the lists of these transactions, and with each entry done that names one of them
 abbrev pub all_ended : (ids : List TxnId) → RowLists → RowLists

@@ -3,11 +3,10 @@ use Rattle.roc_sequence.proofs.Fronts.{front_whole}
 use Rattle.roc_depgraph.specs.declared.known.KnownList.{KnownList}
 use Rattle.roc_server_rows.specs.declared.marks.Mark.{Mark}
 use Rattle.roc_server_rows.specs.Changes.{RowLists}
-use Rattle.roc_server_table.specs.Inner.Changes.{with_lists}
 use Rattle.roc_server_rows.specs.Rows.{known_of, lists_by}
 use Rattle.roc_server_table.specs.Inner.Kept.{decided_of, table_of}
 use Rattle.roc_server_table.specs.Inner.Leading.{AreKept}
-use Rattle.roc_server_table.proofs.AllLearnt.{learnable_more, lists_more, next_new, none_more, same_table, so_far_back, so_far_undecided}
+use Rattle.roc_server_table.proofs.AllLearnt.{learnable_more, lists_more, next_new, none_more, same_table, so_far_back, so_far_undecided, with_lists}
 use Rattle.roc_server_table.proofs.FilledMarks.{refilled}
 use Rattle.roc_server_table.proofs.changes.learn_all.Goals as goal
 

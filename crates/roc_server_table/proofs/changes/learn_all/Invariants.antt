@@ -1,9 +1,9 @@
 use Rattle.std.proofs.Common.{◌≡◌, drop, take}
 use Rattle.roc_step.specs.Learning.{AreLearnable}
-use Rattle.roc_server_table.specs.Inner.Changes.{with_lists}
 use Rattle.roc_server_rows.specs.Rows.{known_of, lists_by}
 use Rattle.roc_server_table.specs.Inner.Kept.{decided_of}
 use Rattle.roc_server_table.specs.Inner.Leading.{AreKept}
+use Rattle.roc_server_table.proofs.AllLearnt.{with_lists}
 use Rattle.roc_server_table.proofs.changes.learn_all.Given as goal
 
 abbrev pub invariant-loop-at : goal.invariant-loop-at
