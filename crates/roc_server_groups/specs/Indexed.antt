@@ -49,6 +49,6 @@ HasRoomAtCells cells index = AllByRecursion (λ a. 0 < spare_at a.cell index) ce
 abbrev pub IsAddedAt : GroupRef → List Access → (old new : List (Cell × CellRefs)) → Type 0
 IsAddedAt s cells old new = (c : Cell) → group_refs_at c new ≡ group_refs_at c old ++ (if list_any (λ a. is_cell a.cell c) cells then s ∷ [] else [])
 
--- all of them are
+-- the references of these transactions are out of all cells, and all others stay
 abbrev pub AreOut : List TxnId → (old new : List (Cell × CellRefs)) → Type 0
 AreOut ids old new = (c : Cell) → group_refs_at c new ≡ filter (λ s. not (is_listed is_txn ids s.id)) (group_refs_at c old)

@@ -29,7 +29,8 @@ pub struct Begun {
     pub cells: Sequence<Access>,
 }
 
-/// An immediate group runs: what it gave and touched. Of a deferrable one what it will use.
+/// An immediate group runs: what it gave and touched. Of a deferrable one what it will use. `NoMemory` may leave cells changed: only a savepoint of them
+/// leads back.
 pub fn begin_group(
     alloc: Global,
     plan: &Plan,

@@ -34,7 +34,7 @@ pub fn is_here(started: &StartedGroups, id: TxnId) -> bool
     started.has(id)
 }
 
-/// Whether one has started with another procedure or other arguments.
+/// Whether a group of the transaction has started with another procedure or other arguments.
 pub fn differs(started: &StartedGroups, id: TxnId, proc: u16, args: &Nums) -> bool
     ensures { result ≡ list_any (λ e. is_txn e.id id && not (e.proc == proc && is_nums e.args args.now)) started.now.groups }
 {

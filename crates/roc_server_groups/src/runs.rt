@@ -30,7 +30,8 @@ pub struct Earlier {
     pub later: Option<Nums>,
 }
 
-/// Takes transactions one by one: the buffered groups of each run, by number.
+/// Takes transactions one by one: the buffered groups of each run, by number. What each gave before is noted behind `earlier`, whether there is memory or
+/// not; cells are put back by their savepoint alone.
 pub fn run_all(
     alloc: Global,
     plan: &Plan,

@@ -88,7 +88,7 @@ impl Index {
         Ok(())
     }
 
-    /// Takes the references of a transaction out of a cell. A cell that has none behind it has no entry either. Takes no memory.
+    /// Takes the references of a transaction out of a cell. A cell that is left without references has no entry. Takes no memory.
     pub fn take_out(&mut self, cell: Cell, id: TxnId)
         ensures changes { ChangesAt cell (without id) self.old self.new }
         ensures let_go { group_refs_at cell self.new ≡ [] → lookup (is_cell cell) self.new ≡ None }

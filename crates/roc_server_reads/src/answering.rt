@@ -25,9 +25,10 @@ use roc_step::{Handled, KeptRead};
 use std::alloc::Global;
 use std::sync::ledger::Ledger;
 
-/// Plans what comes of a step for reads, once all else that it sends stands in `sends`: those that are free then are answered, and the reads that stay are
-/// given, where others stay than are kept. It takes the room to count what ran. No count and no read changes, whether there is memory or not. A step of the
-/// count is one look at a group: a read takes one while the group that is kept with it still holds it up.
+/// Finds what comes of a step for reads, once all else that it sends stands in `sends`: those that are free then are answered, and the reads that stay are
+/// given, where others stay than are kept. Behind a step that is not ignored, what holds up each read that stays is kept or given with it. It takes the
+/// room to count what ran. No count and no read changes, whether there is memory or not. A step of the count is one look at a group: a read takes one
+/// while the group that is kept with it still holds it up.
 pub fn plan_reads<L: Ledger>(
     alloc: Global,
     plan: &Plan,

@@ -55,7 +55,7 @@ impl<'a, L: Ledger> Model for Behind<'a, L> {
 }
 
 impl<'a, L: Ledger> Behind<'a, L> {
-    /// These, where the index is of those of the groups that were not decided before.
+    /// What a step leaves, where `index` is of those of these groups that were not decided before it.
     pub fn new(
         rows: &'a Rows,
         started: &'a StartedGroups,

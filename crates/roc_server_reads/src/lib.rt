@@ -1,7 +1,7 @@
 //! What a server keeps for views, and what comes of a step for reads (`docs/PROTOCOL.md`, "Views"): how often each cell was written, the reads that wait,
-//! which of them are free, and what is answered to these. Nothing here tells what a step plans: what of it holds reads up is lent as a [`Behind`].
+//! which of them are free, and what is answered to these. Nothing here tells what a step tries: what of it holds reads up is lent as a [`Behind`].
 //!
-//! Contracts see [`Views`] as the `Viewing` of `roc_step` (`viewing_of` of `specs/Views.antt`), with room to count in, and a [`Behind`] as the cells, the
+//! Contracts read [`Views`] by its fields, and as the `Viewing` of `roc_step` (`viewing_of` of `specs/Views.antt`). They see a [`Behind`] as the cells, the
 //! groups and the decided transactions that a step leaves (`LeftBehind` of `specs/Behind.antt`).
 //!
 //! The layers above may rely on this: [`plan_reads`] answers exactly the reads that are free behind the step, in turn, and gives those that stay

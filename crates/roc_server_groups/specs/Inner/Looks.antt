@@ -27,6 +27,7 @@ abbrev pub conflicts_with : Access → Option StartedGroup → Bool
 conflicts_with a None = false
 conflicts_with a (Some e) = do_conflict e.cells (a ∷ [])
 
+-- it is looked at, and conflicts with the use
 abbrev pub is_met : Plan → List StartedGroup → TxnId → (immediate : Bool) → Access → GroupRef → Bool
 is_met plan started id immediate a s = is_looked_at plan id immediate s && conflicts_with a (find_group s.id s.group started)
 
