@@ -1,5 +1,5 @@
 -- What comes of a step for reads, by what it leaves
-use Rattle.std.specs.Prelude.{◌≡◌, ⊤, not, List, [], Option, Some, None, map, filter, if◌then◌else◌}
+use Rattle.std.specs.Prelude.{◌≡◌, IfSome, not, List, [], Option, Some, None, map, filter, if◌then◌else◌}
 use Rattle.roc_base.specs.declared.node.Node.TheVariants.{Coord}
 use Rattle.roc_base.specs.declared.node.Shard.{Shard}
 use Rattle.roc_msg.specs.declared.msg.Msg.{Msg}
@@ -26,10 +26,9 @@ abbrev pub read_in : Msg → Handled → Option KeptRead
 read_in (Read id round proc group args) Done = Some (record { id = id; round = round; proc = proc; group = group; args = args })
 read_in msg answer = None
 
--- a read that was taken is of the plan
+-- the read of a message that was taken is of the plan
 abbrev pub TakenFits : Plan → Msg → Handled → Type 0
-TakenFits plan (Read id round proc group args) Done = IsReadOf plan (record { id = id; round = round; proc = proc; group = group; args = args })
-TakenFits plan msg answer = ⊤
+TakenFits plan msg answer = IfSome (read_in msg answer) (IsReadOf plan)
 
 -- what is answered to a read over these cells and versions
 abbrev pub readok_over : Plan → Shard → Store → Counts → KeptRead → Outgoing
