@@ -1,5 +1,5 @@
 -- The groups of a server, as they are kept and behind a step that is tried
-use Rattle.std.specs.Prelude.{◌≡◌, ◌&&◌, ◌||◌, ◌++◌, not, List, [], None, filter}
+use Rattle.std.specs.Prelude.{◌≡◌, ◌&&◌, ◌||◌, ◌++◌, false, not, List, [], None, filter}
 use Rattle.roc_sequence.specs.Lists.{Has}
 use Rattle.roc_sequence.specs.Places.{is_listed, IsListed, NoneTwice}
 use Rattle.roc_base.specs.declared.id.TxnId.{TxnId}
@@ -40,6 +40,10 @@ others over es = filter (λ e. not (is_listed is_txn over e.id)) es
 -- the groups behind the step, which forgets those of these transactions
 abbrev pub groups_behind : (over : List TxnId) → GroupsNow → List StartedGroup
 groups_behind over g = others over (g.ran ++ g.starting)
+
+-- of these groups no transaction is decided
+abbrev pub AreUndecided : (decided : List TxnId) → List StartedGroup → Type 0
+AreUndecided decided es = (e : StartedGroup) → Has e es → is_listed is_txn decided e.id ≡ false
 
 -- what is decided behind a step: what was before it and what it newly decides, less what it forgets, all of which is decided then
 pub record AreDecidedBehind (before newly over after : List TxnId) : Type 0 where

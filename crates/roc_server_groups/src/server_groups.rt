@@ -1,19 +1,19 @@
 //! The groups of a server, of which one step at a time is tried.
-ghost use Rattle.std.specs.Prelude.{◌≡◌, ◌∷◌, ◌++◌, [], false, List, None, Some, OnOk};
+ghost use Rattle.std.specs.Prelude.{◌≡◌, ◌∷◌, ◌++◌, [], List, None, Some, OnOk};
 ghost use Rattle.std.specs.Option.{option_to_list};
 ghost use Rattle.std.specs.List.Sorted.{IsStrictlySortedBy};
 ghost use Rattle.roc_sequence.specs.Lists.{Has};
-ghost use Rattle.roc_sequence.specs.Places.{is_listed, NoneTwice};
-ghost use Rattle.roc_base.specs.TxnId.{is_txn, txn_cmp};
+ghost use Rattle.roc_sequence.specs.Places.{NoneTwice};
+ghost use Rattle.roc_base.specs.TxnId.{txn_cmp};
 ghost use Rattle.roc_base.specs.declared.id.TxnId.{TxnId as Id};
 ghost use Rattle.roc_step.specs.Fits.{AreGroupsOf};
 ghost use Rattle.roc_step.specs.State.{find_group};
 ghost use Rattle.roc_step.specs.declared.started.StartedGroup.{StartedGroup as Group};
 ghost use Rattle.roc_server_index.specs.GroupRefs.{HaveSameRefs};
 ghost use Rattle.roc_server_groups.specs.Groups.{is_same_group};
-ghost use Rattle.roc_server_groups.specs.GroupsNow.{groups_behind, others, AreDecidedBehind, AreOnce, IsUntried, RunsDecided};
+ghost use Rattle.roc_server_groups.specs.GroupsNow.{groups_behind, others, AreDecidedBehind, AreOnce, AreUndecided, IsUntried, RunsDecided};
 ghost use Rattle.roc_server_groups.specs.Indexed.{group_ref_of, AreGroupRefsOf, IsAddedAt, IsIndexOf};
-ghost use Rattle.roc_server_groups.specs.Inner.Tried.{AreUndecided, CanEnter, HasRoomToEnter};
+ghost use Rattle.roc_server_groups.specs.Inner.Tried.{CanEnter, HasRoomToEnter};
 ghost use Rattle.roc_server_groups.specs.Runs.{restored};
 
 use crate::indexed::{add_group, reserve_group, take_out};
@@ -149,7 +149,7 @@ impl ServerGroups {
         ensures kept { self.new.kept ≡ groups_behind over.now self.old }
         ensures untried { IsUntried self.new }
         ensures index { (before after : List Id) → IsIndexOf self.old.index before self.old.kept → AreDecidedBehind before newly.now over.now after
-            → ((e : Group) → Has e self.old.starting → is_listed is_txn before e.id ≡ false) → IsIndexOf self.new.index after self.new.kept }
+            → AreUndecided before self.old.starting → IsIndexOf self.new.index after self.new.kept }
         ensures once { AreOnce self.new }
     {
         let starting = mem::replace(&mut self.starting, None);

@@ -1,9 +1,7 @@
 -- What is kept beside the groups of a server, so that what is tried is kept or undone without memory
-use Rattle.std.specs.Prelude.{◌≡◌, ◌<◌, ℕ, false, List, None}
+use Rattle.std.specs.Prelude.{◌≡◌, ◌<◌, ℕ, List, None}
 use Rattle.roc_sequence.specs.Lists.{Has}
-use Rattle.roc_sequence.specs.Places.{is_listed, NoneTwice}
-use Rattle.roc_base.specs.declared.id.TxnId.{TxnId}
-use Rattle.roc_base.specs.TxnId.{is_txn}
+use Rattle.roc_sequence.specs.Places.{NoneTwice}
 use Rattle.roc_rows.specs.declared.cell.Cell.{Cell}
 use Rattle.roc_server_index.specs.GroupRefs.{CellRefs}
 use Rattle.roc_step.specs.declared.started.StartedGroup.{StartedGroup}
@@ -25,7 +23,3 @@ pub record CanEnter (e : StartedGroup) (started : List StartedGroup) (spare : �
 pub record AreTried (kept : List StartedGroup) (spare : ℕ) (starting : List StartedGroup) (index : List (Cell × CellRefs)) : Type 0 where
   pub once : NoneTwice is_same_group kept
   pub enters : (e : StartedGroup) → Has e starting → CanEnter e kept spare index
-
--- of these groups no transaction is decided
-abbrev pub AreUndecided : (decided : List TxnId) → List StartedGroup → Type 0
-AreUndecided decided es = (e : StartedGroup) → Has e es → is_listed is_txn decided e.id ≡ false
