@@ -1,6 +1,6 @@
 -- Groups by transaction and number
 use Rattle.std.proofs.Common.{◌≡◌, ℕ, zero, suc, ◌+◌, ◌<◌, ◌≤◌, ◌==◌, ◌&&◌, ◌||◌, Bool, true, false, cond, nat_lt, List, [], ◌∷◌, ◌++◌, map, filter, Option, Some, None, find, position, slice_get, slice_set, refl, sym, ap, subst, ◌∙◌, inl, inr, arith}
-use Rattle.std.proofs.lemmas.Bool.{false≢true, and_parts, and_from, or_cases, or_left, or_right}
+use Rattle.std.proofs.lemmas.Bool.{false≢true, and_parts, and_from, or_cases, or_left, or_parts, or_right}
 use Rattle.std.proofs.lemmas.Bool.Decides.{nat_tests}
 use Rattle.std.proofs.lemmas.List.{map-append}
 use Rattle.std.specs.List.{IsDistinct, list_any}
@@ -15,7 +15,7 @@ use Rattle.roc_base.specs.declared.id.TxnId.{TxnId}
 use Rattle.roc_base.specs.TxnId.{is_txn}
 use Rattle.roc_server_groups.specs.declared.group_key.GroupKey.{GroupKey}
 use Rattle.roc_step.specs.declared.started.StartedGroup.{StartedGroup}
-use Rattle.roc_step.specs.State.{is_group}
+use Rattle.roc_step.specs.State.{is_group, is_here}
 use Rattle.roc_server_groups.specs.Inner.Keyed.{AreKeyed, HaveNumbersBelow, IsOnceHere, group_key_of}
 use Rattle.roc_server_groups.proofs.Placed.{position-map, position-same}
 
@@ -203,6 +203,13 @@ module _ (id : TxnId) where
     pub any_all : (n : ℕ) (es : List StartedGroup) → HaveNumbersBelow n es → list_any (passes_up_to n) es ≡ list_any (λ e. is_txn e.id id && q e) es
     any_all n [] below = refl
     any_all n (e ∷ es) below = (λ i. (all_up n e (below e (inl refl)) i && q e) || any_all n es (λ x h. below x (inr h)) i)
+
+    -- where none is here, none passes
+    pub any_absent : (es : List StartedGroup) → is_here id es ≡ false → list_any (λ e. is_txn e.id id && q e) es ≡ false
+    any_absent [] absent = refl
+    any_absent (e ∷ es) absent =
+        let p = or_parts (is_txn e.id id) (is_here id es) absent in
+        (λ i. (p.0 i && q e) || any_absent es p.1 i)
 
     -- one that passes, whatever its number
     pub any_found : (n : ℕ) (es : List StartedGroup) → option_map_or q (find (is_group id n) es) false ≡ true → list_any (λ e. is_txn e.id id && q e) es ≡ true

@@ -38,6 +38,9 @@ pub fn is_here(started: &StartedGroups, id: TxnId) -> bool
 pub fn differs(started: &StartedGroups, id: TxnId, proc: u16, args: &Nums) -> bool
     ensures { result ≡ list_any (λ e. is_txn e.id id && not (e.proc == proc && is_nums e.args args.now)) started.now.groups }
 {
+    if !started.has(id) {
+        return false;
+    }
     for number in 0..started.numbers() {
         let group = group_at(started, started.place(id, number));
         if is_other(group, proc, args) {

@@ -63,6 +63,9 @@ fn take_out_one(index: &mut Index, started: &StartedGroups, id: TxnId)
     requires { AreGroupRefsOf started.now.groups index.old }
     ensures { IsOutOfAll id index.old index.new }
 {
+    if !started.has(id) {
+        return;
+    }
     for number in 0..started.numbers() {
         let group = group_at(started, started.place(id, number));
         take_out_group(index, group, id);

@@ -5,8 +5,12 @@ use Rattle.roc_step.specs.declared.started.StartedGroup.{StartedGroup}
 use Rattle.roc_step.specs.State.{is_group}
 use Rattle.roc_server_groups.specs.Inner.Keyed.{HaveNumbersBelow}
 use Rattle.roc_server_groups.proofs.Placed.{found_by_place}
-use Rattle.roc_server_groups.proofs.KeyedGroups.{any_none, any_more, any_all, any_found}
+use Rattle.roc_server_groups.proofs.KeyedGroups.{any_absent, any_none, any_more, any_all, any_found}
 use Rattle.roc_server_groups.proofs.groups.differs.Goals as goal
+
+pub returns-then-not-has : goal.returns-then-not-has
+returns-then-not-has c =
+    sym (any_absent c.args.id (λ (e : StartedGroup). not (e.proc == c.args.proc && is_nums e.args c.args.args.now)) c.args.started.now.groups (sym c.has.ensures ∙ c.if-not-has.true))
 
 pub loop-number-init : goal.loop-number-init
 loop-number-init c = any_none c.args.id (λ (e : StartedGroup). not (e.proc == c.args.proc && is_nums e.args c.args.args.now)) c.args.started.now.groups

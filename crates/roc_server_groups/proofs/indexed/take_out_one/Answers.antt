@@ -7,8 +7,16 @@ use Rattle.roc_step.specs.State.{is_group}
 use Rattle.roc_server_groups.specs.Inner.Keyed.{HaveNumbersBelow}
 use Rattle.roc_server_groups.proofs.IndexSteps.{out_more, out_of_all}
 use Rattle.roc_server_groups.proofs.Placed.{found_by_place}
-use Rattle.roc_server_groups.proofs.KeyedGroups.{any_none, any_more, any_all, passes_up_to}
+use Rattle.roc_server_groups.proofs.KeyedGroups.{any_absent, any_none, any_more, any_all, passes_up_to}
 use Rattle.roc_server_groups.proofs.indexed.take_out_one.Goals as goal
+
+pub returns-then-not-has : goal.returns-then-not-has
+returns-then-not-has c =
+    let id = c.args.id in
+    let es = c.args.started.now.groups in
+    let old = c.args.index.now in
+    let absent = sym c.has.ensures ∙ c.if-not-has.true in
+    out_of_all id es old old c.requires (λ d. ap (λ t. if t then without id (group_refs_at d old) else group_refs_at d old) (sym (any_absent id (uses_cell d) es absent)))
 
 pub loop-number-init : goal.loop-number-init
 loop-number-init c d = ap (λ t. if t then without c.args.id (group_refs_at d c.args.index.now) else group_refs_at d c.args.index.now) (sym (any_none c.args.id (uses_cell d) c.args.started.now.groups))
