@@ -50,11 +50,7 @@ last_or true false = refl
 last_or false true = refl
 last_or false false = refl
 
--- no uses
-pub none_used : AreSameUses [] []
-none_used = record { met = λ x. refl; fewer = λ f. omega arith }
-
--- and one more before the others
+-- one more before the others
 pub one_used : (cells uses : List Access) (a : Access) → AreSameUses cells uses → AreSameUses (a ∷ cells) (with_use a uses)
 one_used cells uses a o = go (list_any (λ b. covers b a) uses) refl
   where

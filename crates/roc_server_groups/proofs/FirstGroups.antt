@@ -73,9 +73,6 @@ none_by_first firsts es f id is = sym (position-none (λ (e : StartedGroup). is_
 
 -- ---- one more
 
-pub no_firsts : (firsts : List (TxnId × ℕ)) → firsts ≡ [] → AreFirsts firsts []
-no_firsts firsts none id = ap (lookup (is_txn id)) none
-
 module _ (firsts : List (TxnId × ℕ)) (es : List StartedGroup) (e : StartedGroup) (f : AreFirsts firsts es) where
   numbers_more : (id : TxnId) → option_map number_of (found_for id (es ++ e ∷ [])) ≡ option_map number_of (option_or (found_for id es) (cond (is_txn e.id id) (Some e) None))
   numbers_more id = ap (option_map number_of) (find-append (λ (x : StartedGroup). is_txn x.id id) es (e ∷ []))

@@ -1,5 +1,5 @@
 -- The index follows the started groups and what is decided
-use Rattle.std.proofs.Common.{◌≡◌, ℕ, ◌+◌, ◌-◌, ◌<◌, ◌≤◌, Bool, true, false, cond, not, ◌&&◌, ◌||◌, if◌then◌else◌, List, [], ◌∷◌, ◌++◌, length, take, filter, find, get_or, ◌⊎◌, Option, Some, None, slice_get, refl, sym, ap, subst, ◌∙◌, inl, inr, length-append, append-nil, arith}
+use Rattle.std.proofs.Common.{◌≡◌, ℕ, ◌+◌, ◌-◌, ◌<◌, ◌≤◌, Bool, true, false, cond, not, ◌&&◌, ◌||◌, if◌then◌else◌, List, [], ◌∷◌, ◌++◌, length, take, filter, get_or, ◌⊎◌, Option, Some, None, slice_get, refl, sym, ap, subst, ◌∙◌, inl, inr, length-append, append-nil, arith}
 use Rattle.std.proofs.lemmas.Bool.{false≢true, true≢false}
 use Rattle.std.proofs.lemmas.Bool.Decides.{nat_tests}
 use Rattle.std.proofs.lemmas.List.{take_more}
@@ -8,7 +8,7 @@ use Rattle.std.proofs.lemmas.List.Folds.{list_any_more}
 use Rattle.std.specs.List.{AllByRecursion, list_any}
 use Rattle.roc_sequence.specs.Lists.{Has}
 use Rattle.roc_sequence.specs.Places.{is_listed}
-use Rattle.roc_sequence.proofs.Holds.{all_has, all_append, all_weaker, has_all, has_any}
+use Rattle.roc_sequence.proofs.Holds.{all_has, all_append, all_weaker, has_any}
 use Rattle.roc_sequence.proofs.Members.{has_at, from_has_filter}
 use Rattle.roc_base.specs.declared.id.TxnId.{TxnId}
 use Rattle.roc_base.specs.TxnId.{is_txn}
@@ -23,7 +23,6 @@ use Rattle.roc_step.specs.Start.{uses_cell}
 use Rattle.roc_server_groups.specs.Groups.{AreSameGroups}
 use Rattle.roc_server_groups.specs.Indexed.{group_ref_of, group_refs_of, undecided_refs, IsIndexOf, IsGroupRefOf, AreGroupRefsOf, HasRoomAtCells, IsAddedAt, AreOut}
 use Rattle.roc_server_groups.specs.Inner.Looks.{IsOutOf, IsOutOfAll}
-use Rattle.roc_step.specs.State.{is_group, find_group}
 use Rattle.roc_server_groups.proofs.Stands.{indexed_is, group_refs_more, group_refs_same}
 
 abbrev Index : Type 0
@@ -112,22 +111,6 @@ finds_room s cells a old mid added kept room = go (list_any (λ b. is_cell b.cel
     go : (t : Bool) → list_any (λ b. is_cell b.cell a.cell) cells ≡ t → (0 < spare_at a.cell mid) ⊎ (ends_with s (group_refs_at a.cell mid) ≡ true)
     go true e = inr (ap (ends_with s) (added a.cell ∙ ap (λ t. group_refs_at a.cell old ++ (if t then s ∷ [] else [])) e) ∙ ends_new s (group_refs_at a.cell old))
     go false e = let h = kept a.cell e in inl (omega (arith, room, h))
-
--- ---- what is not there
-
-not_found : {A : Type 0} (p : A → Bool) (xs : List A) (a : A) → find p xs ≡ None → Has a xs → p a ≡ false
-not_found p [] a none k = absurd k
-not_found {A = A} p (x ∷ xs) a none k = go (p x) refl none k (not_found p xs a)
-  where
-    go : (b : Bool) → p x ≡ b → cond b (Some x) (find p xs) ≡ None → (a ≡ x) ⊎ Has a xs → (find p xs ≡ None → Has a xs → p a ≡ false) → p a ≡ false
-    go true e n k ih = cc
-    go false e n (inl is) ih = ap p is ∙ e
-    go false e n (inr h) ih = ih n h
-
--- a group that is not here has no reference
-pub none_yet : (index : Index) (decided : List TxnId) (es : List StartedGroup) (e : StartedGroup) → IsIndexOf index decided es → find_group e.id e.group es ≡ None → (c : Cell) → AllByRecursion (λ s. is_same_ref s (group_ref_of e) ≡ false) (group_refs_at c index)
-none_yet index decided es e h absent c = has_all (λ s. is_same_ref s (group_ref_of e) ≡ false) (group_refs_at c index) (λ s k.
-    let p = indexed_is c index decided es h s k in ap (λ (x : GroupRef). is_same_ref x (group_ref_of e)) p.is ∙ not_found (is_group e.id e.group) es p.group absent p.has)
 
 -- with one more group, whose transaction is not decided
 pub index_started : (old new : Index) (decided : List TxnId) (es : List StartedGroup) (e : StartedGroup) → IsIndexOf old decided es → is_listed is_txn decided e.id ≡ false → IsAddedAt (group_ref_of e) e.cells old new → IsIndexOf new decided (es ++ e ∷ [])
