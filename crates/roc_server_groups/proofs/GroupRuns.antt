@@ -12,9 +12,8 @@ use Rattle.roc_step.specs.declared.started.StartedGroup.{StartedGroup}
 use Rattle.roc_step.specs.Runs.{count_of_groups, groups_here, buffered_here, run_group, run_groups, take_all, group_call}
 use Rattle.roc_step.specs.Fits.{AreGroupsOf}
 use Rattle.roc_server_groups.specs.Groups.{holding, is_same_group, AreSameGroups}
-use Rattle.roc_step.specs.State.{unrun}
 use Rattle.roc_server_groups.specs.Inner.Runs.{buffered, RunsAt, RunsIfBuffered}
-use Rattle.roc_step.specs.State.{is_group, find_group, ServerState}
+use Rattle.roc_step.specs.State.{is_group, find_group, unrun, ServerState}
 use Rattle.roc_sequence.proofs.Found.{found_at, found_within, set_where_it_stands}
 use Rattle.roc_server_groups.proofs.SameGroups.{same_own, same_swap, set_same, fits_same, once_same, find_same}
 

@@ -13,8 +13,7 @@ use Rattle.roc_step.specs.declared.started.StartedGroup.{StartedGroup}
 use Rattle.roc_step.specs.Runs.{group_call}
 use Rattle.roc_step.specs.Fits.{IsCallOf, AreGroupsOf}
 use Rattle.roc_server_groups.specs.Groups.{is_same_group, AreSameGroups}
-use Rattle.roc_step.specs.State.{unrun}
-use Rattle.roc_step.specs.State.{is_group, find_group, is_here}
+use Rattle.roc_step.specs.State.{is_group, find_group, is_here, unrun}
 
 pub same_own : (e : StartedGroup) → is_same_group e e ≡ true
 same_own e = grind (arith, nat_tests)

@@ -8,9 +8,8 @@ use Rattle.roc_rows.specs.Store.{Store, read, write}
 use Rattle.roc_rows.proofs.CellLaws.{is_cell-false, is_cell-true}
 use Rattle.roc_rows.proofs.Stored.{read-write_other, read-write_same}
 use Rattle.roc_group.specs.declared.access.Access.{Access}
-use Rattle.roc_group.specs.GroupRun.{GroupCall, group_run, group_uses}
+use Rattle.roc_group.specs.GroupRun.{begin, group_pieces, group_run, group_uses, GroupCall}
 use Rattle.roc_group.proofs.Effects.{run_alike}
-use Rattle.roc_group.specs.GroupRun.{begin, group_pieces}
 use Rattle.roc_plan.specs.Groups.{Plan}
 
 -- a cell that is copied holds the same, and so does each that did

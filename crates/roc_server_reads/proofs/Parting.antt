@@ -1,6 +1,5 @@
 -- Reads with their holders, and what is looked at for them
-use Rattle.std.proofs.Common.{◌≡◌, ◌≤◌, ◌+◌, ℕ, zero, suc, Bool, not, cond, List, [], ◌∷◌, ◌++◌, Option, Some, None, is_some, length, filter, drop}
-use Rattle.std.proofs.Common.{refl, sym, ap, ◌∙◌, arith, add-one}
+use Rattle.std.proofs.Common.{◌≡◌, ◌≤◌, ◌+◌, ℕ, zero, suc, Bool, not, cond, List, [], ◌∷◌, ◌++◌, Option, Some, None, is_some, length, filter, drop, refl, sym, ap, ◌∙◌, arith, add-one}
 use Rattle.std.proofs.lemmas.List.Elements.{filter-append}
 use Rattle.std.specs.Prelude.{IsSome}
 use Rattle.std.specs.List.{AllByRecursion}
