@@ -4,7 +4,7 @@ ghost use Rattle.std.specs.List.{AllByRecursion, list_any};
 ghost use Rattle.std.specs.Option.{option_copied, option_map_or};
 ghost use Rattle.roc_rows.specs.declared.cell.Cell.{Cell};
 ghost use Rattle.roc_rows.specs.Cells.{is_cell};
-ghost use Rattle.roc_server_index.specs.GroupRefs.{group_refs_at, is_same_ref, HaveSameRefs, KeepsRoom};
+ghost use Rattle.roc_server_index.specs.GroupRefs.{group_refs_at, is_same_ref, HaveSameRefs};
 ghost use Rattle.roc_step.specs.Start.{uses_cell};
 ghost use Rattle.roc_server_groups.specs.Indexed.{group_ref_of, HasRoomAtCells, IsAddedAt, AreGroupRefsOf, AreOut};
 ghost use Rattle.roc_server_groups.specs.Inner.Looks.{IsOutOf, IsOutOfAll};
@@ -21,8 +21,6 @@ use roc_step::StartedGroup;
 pub fn reserve_group(index: &mut Index, e: &StartedGroup) -> Result<(), NoMemory>
     ensures refs { HaveSameRefs index.old index.new }
     ensures ok { OnOk result (HasRoomAtCells e.now.cells index.new) }
-    ensures succeeds { HasRoomAtCells e.now.cells index.old → IsOk result }
-    ensures spare { KeepsRoom index.old index.new }
 {
     for access in e.cells.as_slice() {
         index.reserve(access.cell)?;
