@@ -16,9 +16,9 @@ use roc_group::Access;
 use roc_server_index::{GroupRef, Index};
 use roc_step::StartedGroup;
 
-/// Takes memory ahead for the reference of a group at each cell that it uses. No references change, whether there is memory
-/// or not.
-pub fn reserve_group(index: &mut Index, e: &StartedGroup) -> Result<(), NoMemory>
+// Takes memory ahead for the reference of a group at each cell that it uses. No references change, whether there is memory
+// or not.
+pub(crate) fn reserve_group(index: &mut Index, e: &StartedGroup) -> Result<(), NoMemory>
     ensures refs { HaveSameRefs index.old index.new }
     ensures ok { OnOk result (HasRoomAtCells e.now.cells index.new) }
 {
@@ -28,9 +28,9 @@ pub fn reserve_group(index: &mut Index, e: &StartedGroup) -> Result<(), NoMemory
     Ok(())
 }
 
-/// Adds the reference of a group, which has none yet, at each cell that it uses. `NoMemory`, which comes only where a cell
-/// has no room, may leave it at some of them.
-pub fn add_group(index: &mut Index, e: &StartedGroup) -> Result<(), NoMemory>
+// Adds the reference of a group, which has none yet, at each cell that it uses. `NoMemory`, which comes only where a cell
+// has no room, may leave it at some of them.
+pub(crate) fn add_group(index: &mut Index, e: &StartedGroup) -> Result<(), NoMemory>
     requires { (c : Cell) → AllByRecursion (λ s. is_same_ref s (group_ref_of e.now) ≡ false) (group_refs_at c index.old) }
     ensures ok { OnOk result (IsAddedAt (group_ref_of e.now) e.now.cells index.old index.new) }
     ensures succeeds { HasRoomAtCells e.now.cells index.old → IsOk result }
@@ -46,8 +46,8 @@ pub fn add_group(index: &mut Index, e: &StartedGroup) -> Result<(), NoMemory>
     Ok(())
 }
 
-/// Takes out the references of transactions.
-pub fn take_out(index: &mut Index, started: &StartedGroups, ids: &[TxnId])
+// Takes out the references of transactions.
+pub(crate) fn take_out(index: &mut Index, started: &StartedGroups, ids: &[TxnId])
     requires { AreGroupRefsOf started.now.groups index.old }
     ensures { AreOut ids.now index.old index.new }
 {

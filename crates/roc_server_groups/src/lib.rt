@@ -6,9 +6,7 @@
 //!
 //! The layers above may rely on this: [`entries`] gives exactly the entries of a group that would start, whichever transactions the index says are
 //! decided, and looks at no more started groups than there are pairs of a cell that it uses and an undecided group of its class that uses that cell.
-//! [`run_all`] runs exactly what the step runs of transactions (`take_all` of `roc_step`), and whether there is memory or not [`put_back`] brings the
-//! groups back to what they were. [`reserve_group`] and [`StartedGroups::reserve`] take the memory that [`add_group`] and [`StartedGroups::enter`] need.
-//! Whatever wants memory otherwise leaves the groups as they were.
+//! Whatever wants memory leaves the groups that were kept.
 //!
 //! [`ServerGroups`] has the groups with their index, and has one step tried at a time: what is decided runs, or a group is to start, with room taken for
 //! it. Contracts see the groups before the step, those with what ran, and the group that starts (`specs/GroupsNow.antt`). [`ServerGroups::release`]
@@ -32,9 +30,7 @@ mod started_groups;
 pub use begun::{Begun, begin_group, is_immediate};
 pub use commitoks::{send_commitok, send_commitoks};
 pub use groups::{differs, find_group, is_here};
-pub use indexed::{add_group, reserve_group, take_out};
 pub use looks::{Starting, edges_for, entries};
-pub use ran::{note_all, note_group};
-pub use runs::{Earlier, put_back, run_all};
+pub use ran::note_group;
 pub use server_groups::ServerGroups;
 pub use started_groups::StartedGroups;

@@ -58,8 +58,8 @@ fn note_transaction(
     Ok(())
 }
 
-/// The same of transactions, one by one.
-pub fn note_all(
+// The same of transactions, one by one.
+pub(crate) fn note_all(
     plan: &Plan,
     ids: &[TxnId],
     started: &StartedGroups,

@@ -21,18 +21,18 @@ use roc_rows::Rows;
 use roc_step::StartedGroup;
 use std::alloc::Global;
 
-/// What is kept of what the group at an index gave, before it runs.
+// What is kept of what the group at an index gave, before it runs.
 #[derive(Drop)]
-pub struct Earlier {
-    /// Where the group stands.
+pub(crate) struct Earlier {
+    // Where the group stands.
     pub at: usize,
-    /// What it had given, where it had run.
+    // What it had given, where it had run.
     pub later: Option<Nums>,
 }
 
-/// Takes transactions one by one: the buffered groups of each run, by number. What each gave before is noted behind `earlier`, whether there is memory or
-/// not; cells are put back by their savepoint alone.
-pub fn run_all(
+// Takes transactions one by one: the buffered groups of each run, by number. What each gave before is noted behind `earlier`, whether there is memory or
+// not; cells are put back by their savepoint alone.
+pub(crate) fn run_all(
     alloc: Global,
     plan: &Plan,
     ids: &[TxnId],
@@ -164,8 +164,8 @@ fn keep_given(
     Ok(())
 }
 
-/// The groups are as they were before the runs that are noted. Takes no memory.
-pub fn put_back(started: &mut StartedGroups, mut earlier: Vec<Earlier>)
+// The groups are as they were before the runs that are noted. Takes no memory.
+pub(crate) fn put_back(started: &mut StartedGroups, mut earlier: Vec<Earlier>)
     ensures { started.new.groups ≡ restored earlier.items started.old.groups }
 {
     while let Some(Earlier { at, later }) = earlier.pop() {

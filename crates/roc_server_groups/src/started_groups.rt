@@ -42,8 +42,8 @@ impl Model for StartedGroups {
 }
 
 impl StartedGroups {
-    /// No groups.
-    pub fn new(alloc: Global) -> StartedGroups
+    // No groups.
+    pub(crate) fn new(alloc: Global) -> StartedGroups
         ensures { result.groups ≡ [] }
     {
         StartedGroups {
@@ -67,8 +67,8 @@ impl StartedGroups {
         self.numbers
     }
 
-    /// Takes memory ahead, so that this many more groups find room. No group changes, whether there is memory or not.
-    pub fn reserve(&mut self, more: usize) -> Result<(), NoMemory>
+    // Takes memory ahead, so that this many more groups find room. No group changes, whether there is memory or not.
+    pub(crate) fn reserve(&mut self, more: usize) -> Result<(), NoMemory>
         ensures groups { self.new.groups ≡ self.old.groups }
         ensures ok { OnOk result (more ≤ self.new.spare) }
     {
@@ -77,8 +77,8 @@ impl StartedGroups {
         Ok(())
     }
 
-    /// Adds a group at the end, where there is room.
-    pub fn enter(&mut self, group: StartedGroup)
+    // Adds a group at the end, where there is room.
+    pub(crate) fn enter(&mut self, group: StartedGroup)
         requires absent { find_group group.id group.group self.old.groups ≡ None }
         requires room { 0 < self.old.spare }
         ensures { self.new.groups ≡ self.old.groups ++ group ∷ [] }
@@ -87,8 +87,8 @@ impl StartedGroups {
         put(&mut self.groups, &mut self.numbers, group);
     }
 
-    /// Forgets the groups of these transactions, which rise. Takes no memory. It goes through all groups once, however few go.
-    pub fn forget(&mut self, ids: &[TxnId])
+    // Forgets the groups of these transactions, which rise. Takes no memory. It goes through all groups once, however few go.
+    pub(crate) fn forget(&mut self, ids: &[TxnId])
         requires { IsStrictlySortedBy txn_cmp ids.now }
         ensures { self.new.groups ≡ filter (λ e. not (is_listed is_txn ids.now e.id)) self.old.groups }
     {
