@@ -21,8 +21,8 @@ use Rattle.roc_server_index.specs.GroupRefs.{CellRefs, group_refs_at, spare_at, 
 use Rattle.roc_step.specs.declared.started.StartedGroup.{StartedGroup}
 use Rattle.roc_step.specs.Start.{uses_cell}
 use Rattle.roc_server_groups.specs.Groups.{AreSameGroups}
-use Rattle.roc_server_groups.specs.Indexed.{group_ref_of, group_refs_of, undecided_refs, IsIndexOf, IsGroupRefOf, AreGroupRefsOf, HasRoomAtCells, IsAddedAt, AreOut}
-use Rattle.roc_server_groups.specs.Inner.Looks.{IsOutOf, IsOutOfAll}
+use Rattle.roc_server_groups.specs.Indexed.{group_ref_of, group_refs_of, undecided_refs, IsIndexOf, IsGroupRefOf, AreGroupRefsOf}
+use Rattle.roc_server_groups.specs.Inner.Changes.{HasRoomAtCells, IsAddedAt, AreOut, IsOutOf, IsOutOfAll}
 use Rattle.roc_server_groups.proofs.Stands.{indexed_is, group_refs_more, group_refs_same}
 
 abbrev Index : Type 0

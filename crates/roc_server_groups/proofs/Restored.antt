@@ -2,7 +2,7 @@
 use Rattle.std.proofs.Common.{◌≡◌, ℕ, ℤ, zero, suc, ◌≤◌, List, [], ◌∷◌, ◌++◌, Option, Some, length, slice_get, slice_set, refl, sym, ap, ◌∙◌, arith}
 use Rattle.roc_server_groups.specs.declared.runs.Earlier.{Earlier}
 use Rattle.roc_step.specs.declared.started.StartedGroup.{StartedGroup}
-use Rattle.roc_server_groups.specs.Runs.{restored, with_later_at}
+use Rattle.roc_server_groups.specs.Inner.Restored.{restored, with_later_at}
 
 pub restored-none : (ws : List Earlier) (es : List StartedGroup) → ws ≡ [] → restored ws es ≡ es
 unfolding restored

@@ -24,9 +24,10 @@ use Rattle.roc_step.specs.State.{find_group, is_group, unrun}
 use Rattle.roc_server_groups.specs.declared.runs.Earlier.{Earlier}
 use Rattle.roc_server_groups.specs.Groups.{is_same_group, AreSameGroups}
 use Rattle.roc_server_groups.specs.GroupsNow.{others, AreDecidedBehind, AreOnce, IsUntried}
-use Rattle.roc_server_groups.specs.Indexed.{group_ref_of, group_refs_of, undecided_refs, AreGroupRefsOf, AreOut, IsAddedAt, IsGroupRefOf, IsIndexOf}
+use Rattle.roc_server_groups.specs.Indexed.{group_ref_of, group_refs_of, undecided_refs, AreGroupRefsOf, IsGroupRefOf, IsIndexOf}
+use Rattle.roc_server_groups.specs.Inner.Changes.{AreOut, IsAddedAt}
 use Rattle.roc_server_groups.specs.Inner.Tried.{AreTried, CanEnter, HasRoomToEnter}
-use Rattle.roc_server_groups.specs.Runs.{restored, with_later_at}
+use Rattle.roc_server_groups.specs.Inner.Restored.{restored, with_later_at}
 use Rattle.roc_server_groups.proofs.IndexSteps.{filter_all, index_decided}
 use Rattle.roc_server_groups.proofs.Restored.{restored-none}
 use Rattle.roc_server_groups.proofs.SameGroups.{find_same, once_same, same_own}

@@ -1,15 +1,12 @@
 -- The index from cells to the undecided groups that use them
-use Rattle.std.specs.Prelude.{◌≡◌, ◌<◌, true, not, List, [], ◌∷◌, ◌++◌, filter, if◌then◌else◌}
-use Rattle.std.specs.List.{AllByRecursion, list_any}
+use Rattle.std.specs.Prelude.{◌≡◌, true, not, List, [], ◌∷◌, filter, if◌then◌else◌}
 use Rattle.roc_sequence.specs.Lists.{Has}
 use Rattle.roc_sequence.specs.Places.{is_listed}
 use Rattle.roc_base.specs.declared.id.TxnId.{TxnId}
 use Rattle.roc_base.specs.TxnId.{is_txn}
 use Rattle.roc_rows.specs.declared.cell.Cell.{Cell}
-use Rattle.roc_rows.specs.Cells.{is_cell}
-use Rattle.roc_group.specs.declared.access.Access.{Access}
 use Rattle.roc_server_index.specs.declared.group_ref.GroupRef.{GroupRef}
-use Rattle.roc_server_index.specs.GroupRefs.{CellRefs, group_refs_at, spare_at}
+use Rattle.roc_server_index.specs.GroupRefs.{CellRefs, group_refs_at}
 use Rattle.roc_step.specs.declared.started.StartedGroup.{StartedGroup}
 use Rattle.roc_step.specs.Start.{uses_cell}
 
@@ -38,17 +35,3 @@ pub record IsGroupRefOf (es : List StartedGroup) (c : Cell) (s : GroupRef) : Typ
 
 abbrev pub AreGroupRefsOf : List StartedGroup → List (Cell × CellRefs) → Type 0
 AreGroupRefsOf started index = (c : Cell) (s : GroupRef) → Has s (group_refs_at c index) → IsGroupRefOf started c s
-
--- there is room for one more reference at the cell of each of these uses
-abbrev pub HasRoomAtCells : List Access → List (Cell × CellRefs) → Type 0
-HasRoomAtCells cells index = AllByRecursion (λ a. 0 < spare_at a.cell index) cells
-
--- ---- changes
-
--- the reference stands behind those of each of these cells
-abbrev pub IsAddedAt : GroupRef → List Access → (old new : List (Cell × CellRefs)) → Type 0
-IsAddedAt s cells old new = (c : Cell) → group_refs_at c new ≡ group_refs_at c old ++ (if list_any (λ a. is_cell a.cell c) cells then s ∷ [] else [])
-
--- the references of these transactions are out of all cells, and all others stay
-abbrev pub AreOut : List TxnId → (old new : List (Cell × CellRefs)) → Type 0
-AreOut ids old new = (c : Cell) → group_refs_at c new ≡ filter (λ s. not (is_listed is_txn ids s.id)) (group_refs_at c old)

@@ -2,5 +2,4 @@ pub mod Entered
 pub mod GroupsNow
 pub mod Groups
 pub mod Indexed
-pub mod Runs
 pub mod Inner

@@ -6,8 +6,8 @@ ghost use Rattle.roc_rows.specs.declared.cell.Cell.{Cell};
 ghost use Rattle.roc_rows.specs.Cells.{is_cell};
 ghost use Rattle.roc_server_index.specs.GroupRefs.{group_refs_at, is_same_ref, HaveSameRefs};
 ghost use Rattle.roc_step.specs.Start.{uses_cell};
-ghost use Rattle.roc_server_groups.specs.Indexed.{group_ref_of, HasRoomAtCells, IsAddedAt, AreGroupRefsOf, AreOut};
-ghost use Rattle.roc_server_groups.specs.Inner.Looks.{IsOutOf, IsOutOfAll};
+ghost use Rattle.roc_server_groups.specs.Indexed.{group_ref_of, AreGroupRefsOf};
+ghost use Rattle.roc_server_groups.specs.Inner.Changes.{HasRoomAtCells, IsAddedAt, AreOut, IsOutOf, IsOutOfAll};
 
 use crate::groups::group_at;
 use crate::started_groups::StartedGroups;

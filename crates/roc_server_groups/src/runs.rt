@@ -8,7 +8,7 @@ ghost use Rattle.roc_step.specs.declared.started.StartedGroup.{StartedGroup as G
 ghost use Rattle.roc_step.specs.Fits.{AreGroupsOf, IsCallOf};
 ghost use Rattle.roc_server_groups.specs.Groups.{holding, is_same_group, AreSameGroups};
 ghost use Rattle.roc_server_groups.specs.Inner.Runs.{buffered, RunsAt, RunsIfBuffered};
-ghost use Rattle.roc_server_groups.specs.Runs.{restored, with_later_at};
+ghost use Rattle.roc_server_groups.specs.Inner.Restored.{restored, with_later_at};
 ghost use Rattle.roc_step.specs.State.{find_group, ServerState};
 
 use crate::begun::is_immediate;

@@ -12,9 +12,10 @@ ghost use Rattle.roc_step.specs.declared.started.StartedGroup.{StartedGroup as G
 ghost use Rattle.roc_server_index.specs.GroupRefs.{HaveSameRefs};
 ghost use Rattle.roc_server_groups.specs.Groups.{is_same_group};
 ghost use Rattle.roc_server_groups.specs.GroupsNow.{groups_behind, others, AreDecidedBehind, AreOnce, AreUndecided, IsUntried, RunsDecided};
-ghost use Rattle.roc_server_groups.specs.Indexed.{group_ref_of, AreGroupRefsOf, IsAddedAt, IsIndexOf};
+ghost use Rattle.roc_server_groups.specs.Indexed.{group_ref_of, AreGroupRefsOf, IsIndexOf};
+ghost use Rattle.roc_server_groups.specs.Inner.Changes.{IsAddedAt};
 ghost use Rattle.roc_server_groups.specs.Inner.Tried.{CanEnter, HasRoomToEnter};
-ghost use Rattle.roc_server_groups.specs.Runs.{restored};
+ghost use Rattle.roc_server_groups.specs.Inner.Restored.{restored};
 
 use crate::indexed::{add_group, reserve_group, take_out};
 use crate::ran::note_all;
@@ -46,7 +47,7 @@ pub struct ServerGroups {
 impl Model for ServerGroups {
     ghost use Rattle.std.specs.Option.{option_to_list};
     ghost use Rattle.roc_server_groups.specs.GroupsNow.{GroupsNow};
-    ghost use Rattle.roc_server_groups.specs.Runs.{restored};
+    ghost use Rattle.roc_server_groups.specs.Inner.Restored.{restored};
     ghost use Rattle.roc_server_groups.specs.Inner.Tried.{AreTried};
 
     ghost Value = { GroupsNow };

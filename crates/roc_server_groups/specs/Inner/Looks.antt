@@ -1,15 +1,13 @@
--- What is looked at through the index, and what is taken out of it
-use Rattle.std.specs.Prelude.{◌≡◌, ◌<◌, IsSome, length, Bool, false, not, ◌&&◌, List, [], ◌∷◌, Option, Some, None, if◌then◌else◌}
+-- What is looked at through the index
+use Rattle.std.specs.Prelude.{◌<◌, IsSome, length, Bool, false, not, ◌&&◌, List, [], ◌∷◌, Option, Some, None}
 use Rattle.roc_base.specs.declared.id.TxnId.{TxnId}
 use Rattle.roc_base.specs.declared.node.Shard.{Shard}
 use Rattle.roc_base.specs.TxnId.{is_txn}
 use Rattle.roc_base.specs.Edge.{Dependency}
 use Rattle.roc_base.specs.Equality.{same_tag}
-use Rattle.roc_rows.specs.declared.cell.Cell.{Cell}
 use Rattle.roc_group.specs.declared.access.Access.{Access}
 use Rattle.roc_group.specs.Accesses.{do_conflict}
 use Rattle.roc_server_index.specs.declared.group_ref.GroupRef.{GroupRef}
-use Rattle.roc_server_index.specs.GroupRefs.{CellRefs, group_refs_at, without}
 use Rattle.roc_plan.specs.Groups.{Plan, groups_of, is_immediate_of}
 use Rattle.roc_step.specs.declared.started.StartedGroup.{StartedGroup}
 use Rattle.roc_step.specs.State.{find_group}
@@ -34,13 +32,3 @@ is_met plan started id immediate a s = is_looked_at plan id immediate s && confl
 -- the entry for the group of a reference
 abbrev pub edge_from : Shard → (immediate : Bool) → GroupRef → Dependency
 edge_from shard immediate s = record { from = s.id; imm = immediate; def = not immediate; at = shard }
-
--- ---- what is taken out
-
--- the transaction is out of the cells that pass, and no other cell has changed
-abbrev pub IsOutOf : TxnId → (Cell → Bool) → (old new : List (Cell × CellRefs)) → Type 0
-IsOutOf id passes old new = (c : Cell) → group_refs_at c new ≡ (if passes c then without id (group_refs_at c old) else group_refs_at c old)
-
--- it is out of all cells
-abbrev pub IsOutOfAll : TxnId → (old new : List (Cell × CellRefs)) → Type 0
-IsOutOfAll id old new = (c : Cell) → group_refs_at c new ≡ without id (group_refs_at c old)

@@ -7,7 +7,7 @@ use Rattle.roc_server_index.specs.GroupRefs.{CellRefs}
 use Rattle.roc_step.specs.declared.started.StartedGroup.{StartedGroup}
 use Rattle.roc_step.specs.State.{find_group}
 use Rattle.roc_server_groups.specs.Groups.{is_same_group}
-use Rattle.roc_server_groups.specs.Indexed.{HasRoomAtCells}
+use Rattle.roc_server_groups.specs.Inner.Changes.{HasRoomAtCells}
 
 -- there is room for a group, and for its references
 pub record HasRoomToEnter (e : StartedGroup) (spare : ℕ) (index : List (Cell × CellRefs)) : Type 0 where

@@ -3,7 +3,8 @@ use Rattle.std.proofs.lemmas.Bool.{false≢true}
 use Rattle.roc_sequence.proofs.Holds.{all_at}
 use Rattle.roc_group.specs.declared.access.Access.{Access}
 use Rattle.roc_server_index.specs.GroupRefs.{spare_at, with_group_ref, ChangesAt, TakesRoomAt}
-use Rattle.roc_server_groups.specs.Indexed.{group_ref_of, HasRoomAtCells}
+use Rattle.roc_server_groups.specs.Indexed.{group_ref_of}
+use Rattle.roc_server_groups.specs.Inner.Changes.{HasRoomAtCells}
 use Rattle.roc_server_groups.proofs.IndexSteps.{added_more, beside_more, finds_room}
 use Rattle.roc_server_groups.proofs.indexed.add_group.Goals as goal
 

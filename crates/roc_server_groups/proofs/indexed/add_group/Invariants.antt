@@ -1,5 +1,6 @@
 use Rattle.std.proofs.Common.{take}
-use Rattle.roc_server_groups.specs.Indexed.{group_ref_of, IsAddedAt}
+use Rattle.roc_server_groups.specs.Indexed.{group_ref_of}
+use Rattle.roc_server_groups.specs.Inner.Changes.{IsAddedAt}
 use Rattle.roc_server_groups.proofs.IndexSteps.{KeepsRoomBeside}
 use Rattle.roc_server_groups.proofs.indexed.add_group.Given as goal
 

@@ -1,6 +1,6 @@
 use Rattle.std.proofs.Common.{take}
 use Rattle.roc_server_index.specs.GroupRefs.{HaveSameRefs}
-use Rattle.roc_server_groups.specs.Indexed.{HasRoomAtCells}
+use Rattle.roc_server_groups.specs.Inner.Changes.{HasRoomAtCells}
 use Rattle.roc_server_groups.proofs.indexed.reserve_group.Given as goal
 
 abbrev pub invariant-loop-access : goal.invariant-loop-access

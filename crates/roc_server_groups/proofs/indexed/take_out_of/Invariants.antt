@@ -1,7 +1,7 @@
 use Rattle.std.proofs.Common.{take}
 use Rattle.std.specs.List.{list_any}
 use Rattle.roc_rows.specs.Cells.{is_cell}
-use Rattle.roc_server_groups.specs.Inner.Looks.{IsOutOf}
+use Rattle.roc_server_groups.specs.Inner.Changes.{IsOutOf}
 use Rattle.roc_server_groups.proofs.indexed.take_out_of.Given as goal
 
 abbrev pub invariant-loop-access : goal.invariant-loop-access

@@ -1,6 +1,6 @@
 use Rattle.std.specs.List.{list_any}
 use Rattle.roc_step.specs.Start.{uses_cell}
-use Rattle.roc_server_groups.specs.Inner.Looks.{IsOutOf}
+use Rattle.roc_server_groups.specs.Inner.Changes.{IsOutOf}
 use Rattle.roc_server_groups.proofs.KeyedGroups.{passes_up_to}
 use Rattle.roc_server_groups.proofs.indexed.take_out_one.Given as goal
 

@@ -1,5 +1,5 @@
 use Rattle.std.proofs.Common.{◌≡◌, ◌++◌, ◌∷◌, [], ◌∙◌, Some, slice_set, ap, rules}
-use Rattle.roc_server_groups.specs.Runs.{restored}
+use Rattle.roc_server_groups.specs.Inner.Restored.{restored}
 use Rattle.roc_server_groups.proofs.GroupRuns.{got}
 use Rattle.roc_server_groups.proofs.Restored.{restored-noted}
 use Rattle.roc_server_groups.proofs.runs.keep_given.Goals as goal

@@ -1,5 +1,5 @@
 use Rattle.std.proofs.Common.{◌≡◌, ◌++◌, ◌∷◌, [], ◌∙◌, ap, sym, rules}
-use Rattle.roc_server_groups.specs.Runs.{restored}
+use Rattle.roc_server_groups.specs.Inner.Restored.{restored}
 use Rattle.roc_server_groups.proofs.Restored.{restored-none, restored-last}
 use Rattle.roc_server_groups.proofs.runs.put_back.Goals as goal
 

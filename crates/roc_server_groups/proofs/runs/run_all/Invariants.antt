@@ -1,5 +1,5 @@
 use Rattle.std.proofs.Common.{◌≡◌, drop}
-use Rattle.roc_server_groups.specs.Runs.{restored}
+use Rattle.roc_server_groups.specs.Inner.Restored.{restored}
 use Rattle.roc_server_groups.proofs.GroupRuns.{TakesFrom}
 use Rattle.roc_server_groups.proofs.runs.run_all.Given as goal
 

@@ -1,5 +1,5 @@
 use Rattle.std.proofs.Common.{◌≡◌}
-use Rattle.roc_server_groups.specs.Runs.{restored}
+use Rattle.roc_server_groups.specs.Inner.Restored.{restored}
 use Rattle.roc_server_groups.proofs.GroupRuns.{RunsFrom}
 use Rattle.roc_server_groups.proofs.runs.run_transaction.Given as goal
 

@@ -1,5 +1,5 @@
 use Rattle.std.proofs.Common.{◌≡◌, [], ◌∙◌, refl}
-use Rattle.roc_server_groups.specs.Runs.{restored}
+use Rattle.roc_server_groups.specs.Inner.Restored.{restored}
 use Rattle.roc_server_groups.proofs.Restored.{restored-none}
 use Rattle.roc_server_groups.proofs.Tried.{are_once, none_tried, tried_none}
 use Rattle.roc_server_groups.proofs.server_groups.ServerGroups.new.Goals as goal

@@ -5,7 +5,7 @@ use Rattle.roc_step.specs.declared.started.StartedGroup.{StartedGroup}
 use Rattle.roc_server_groups.specs.GroupsNow.{groups_behind, others, GroupsNow}
 use Rattle.roc_server_groups.specs.Indexed.{AreGroupRefsOf, IsIndexOf}
 use Rattle.roc_server_groups.specs.Inner.Tried.{AreTried}
-use Rattle.roc_server_groups.specs.Runs.{restored}
+use Rattle.roc_server_groups.specs.Inner.Restored.{restored}
 use Rattle.roc_server_groups.proofs.Restored.{restored-none}
 use Rattle.roc_server_groups.proofs.Tried.{absent_same, are_once, enters_same, index_same, none_tried, once_behind, once_ran, refs_same, restored_same, tried_none}
 use Rattle.roc_server_groups.proofs.server_groups.ServerGroups.release.Goals as goal

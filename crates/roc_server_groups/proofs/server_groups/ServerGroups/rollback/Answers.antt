@@ -3,7 +3,7 @@ use Rattle.std.specs.Option.{option_to_list}
 use Rattle.roc_server_groups.specs.declared.runs.Earlier.{Earlier}
 use Rattle.roc_server_groups.specs.GroupsNow.{GroupsNow}
 use Rattle.roc_server_groups.specs.Inner.Tried.{AreTried}
-use Rattle.roc_server_groups.specs.Runs.{restored}
+use Rattle.roc_server_groups.specs.Inner.Restored.{restored}
 use Rattle.roc_server_groups.proofs.Restored.{restored-none}
 use Rattle.roc_server_groups.proofs.Tried.{are_once, none_tried, tried_none}
 use Rattle.roc_server_groups.proofs.server_groups.ServerGroups.rollback.Goals as goal

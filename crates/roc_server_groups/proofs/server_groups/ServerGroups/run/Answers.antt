@@ -1,5 +1,5 @@
 use Rattle.std.specs.Option.{option_to_list}
-use Rattle.roc_server_groups.specs.Runs.{restored}
+use Rattle.roc_server_groups.specs.Inner.Restored.{restored}
 use Rattle.roc_server_groups.proofs.Tried.{are_once, once_ran, tried_ran}
 use Rattle.roc_server_groups.proofs.server_groups.ServerGroups.run.Goals as goal
 

@@ -2,7 +2,7 @@ use Rattle.std.proofs.Common.{◌≡◌, None, sym, ap, subst}
 use Rattle.std.specs.Option.{option_to_list}
 use Rattle.roc_step.specs.State.{find_group}
 use Rattle.roc_server_groups.specs.GroupsNow.{GroupsNow}
-use Rattle.roc_server_groups.specs.Runs.{restored}
+use Rattle.roc_server_groups.specs.Inner.Restored.{restored}
 use Rattle.roc_server_groups.proofs.Tried.{are_once, tried_none, tried_start}
 use Rattle.roc_server_groups.proofs.server_groups.ServerGroups.start.Goals as goal
 
