@@ -1,5 +1,6 @@
 -- The accesses of groups that are noted one after another
-use Rattle.std.proofs.Common.{◌≡◌, ℕ, ◌+◌, ◌<◌, List, [], ◌∷◌, ◌++◌, map, refl, sym, ap, ◌∙◌, append_assoc}
+use Rattle.std.proofs.Common.{◌≡◌, ℕ, ◌+◌, ◌<◌, List, ◌++◌, map, sym, ap, ◌∙◌, append_assoc}
+use Rattle.std.proofs.lemmas.List.Concat.{flat_map-append}
 use Rattle.std.specs.Option.{option_to_list}
 use Rattle.roc_base.specs.declared.id.TxnId.{TxnId}
 use Rattle.roc_msg.specs.declared.outbox.Ran.{Ran}
@@ -14,10 +15,6 @@ use Rattle.roc_server_groups.proofs.GroupRuns.{buffered-append, groups_from, gro
 
 abbrev pub noted : TxnId → Access → Ran
 noted id a = record { id = id; cell = a.cell; writes = a.writes }
-
-accesses-append : (xs ys : List StartedGroup) → accesses_of (xs ++ ys) ≡ accesses_of xs ++ accesses_of ys
-accesses-append [] ys = refl
-accesses-append (x ∷ xs) ys = ap (λ rest. map (noted x.id) x.cells ++ rest) (accesses-append xs ys) ∙ sym (append_assoc (map (noted x.id) x.cells) (accesses_of xs) (accesses_of ys))
 
 -- what is noted by now, and what is left to be noted
 pub record NotesRest (first now : Collected) (left all : List Ran) : Type 0 where
@@ -40,4 +37,4 @@ number_parts plan id started number count l =
     let rest = groups_from id started (number + 1) count in
     ap (λ es. accesses_of (buffered plan es)) (groups_from-more id started number count l)
     ∙ ap accesses_of (buffered-append plan one rest)
-    ∙ accesses-append (buffered plan one) (buffered plan rest)
+    ∙ flat_map-append (λ (e : StartedGroup). map (noted e.id) e.cells) (buffered plan one) (buffered plan rest)

@@ -1,6 +1,6 @@
 -- The groups that are found cell by cell are those that come before
 use Rattle.std.proofs.Common.{◌≡◌, Bool, Some, true, false, cond, not, ◌&&◌, ◌||◌, if◌then◌else◌, List, [], ◌∷◌, ◌++◌, map, filter, refl, sym, ap, subst, ◌∙◌}
-use Rattle.std.proofs.lemmas.Bool.{false≢true}
+use Rattle.std.proofs.lemmas.Bool.{false≢true, or_parts}
 use Rattle.std.specs.List.{AllByRecursion, flat_map, list_any}
 use Rattle.roc_sequence.specs.Lists.{Has}
 use Rattle.roc_sequence.specs.Places.{NoneTwice, is_listed}
@@ -40,14 +40,10 @@ conflict_uses e a h = go e.cells h
     one true w k = absurd (false≢true (sym k))
     one false w k = refl
 
-    both : (x y : Bool) → (x || y) ≡ false → (x ≡ false) × (y ≡ false)
-    both true y k = absurd (false≢true (sym k))
-    both false y k = (refl, k)
-
     go : (us : List Access) → list_any (λ u. is_cell u.cell a.cell) us ≡ false → list_any (meets (a ∷ [])) us ≡ false
     go [] k = refl
     go (u ∷ us) k =
-        let p = both (is_cell u.cell a.cell) (list_any (λ v. is_cell v.cell a.cell) us) k in
+        let p = or_parts (is_cell u.cell a.cell) (list_any (λ v. is_cell v.cell a.cell) us) k in
         ap (λ b. b || list_any (meets (a ∷ [])) us) (one (is_cell u.cell a.cell) (u.writes || a.writes) p.0) ∙ go us p.1
 
 module _ (plan : Plan) (shard : Shard) (left_out : List TxnId) (id : TxnId) (immediate : Bool) where

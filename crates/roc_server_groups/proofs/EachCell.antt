@@ -1,6 +1,6 @@
 -- A use that another one covers meets nothing that the other does not meet
 use Rattle.std.proofs.Common.{◌≡◌, ◌≤◌, Bool, true, false, cond, not, ◌&&◌, ◌||◌, List, [], ◌∷◌, ◌++◌, length, filter, refl, sym, ap, ◌∙◌, length-append, arith}
-use Rattle.std.proofs.lemmas.Bool.{false≢true}
+use Rattle.std.proofs.lemmas.Bool.{and_parts, false≢true}
 use Rattle.std.proofs.lemmas.List.Concat.{flat_map-append}
 use Rattle.std.proofs.lemmas.List.Folds.{list_any-append}
 use Rattle.std.specs.List.{list_any, flat_map}
@@ -30,13 +30,9 @@ covered_test true false true a h k = refl
 covered_test true false false true h k = absurd (false≢true h)
 covered_test true false false false h k = absurd (false≢true k)
 
-covers_cell : (c t : Bool) → (c && t) ≡ true → (c ≡ true) × (t ≡ true)
-covers_cell true t h = (refl, h)
-covers_cell false t h = absurd (false≢true h)
-
 touched : (x b a : Access) → covers b a ≡ true → touches x a ≡ true → touches x b ≡ true
 touched x b a h k =
-    let p = covers_cell (is_cell b.cell a.cell) (b.writes || not a.writes) h in
+    let p = and_parts (is_cell b.cell a.cell) (b.writes || not a.writes) h in
     let here : touches x a ≡ (is_cell x.cell b.cell && (x.writes || a.writes)) = ap (λ (c : Cell). is_cell x.cell c && (x.writes || a.writes)) (sym (is_cell-true b.cell a.cell p.0)) in
     covered_test (is_cell x.cell b.cell) x.writes b.writes a.writes p.1 (sym here ∙ k)
 

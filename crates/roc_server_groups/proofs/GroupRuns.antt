@@ -1,5 +1,7 @@
 -- Groups that run one after another
 use Rattle.std.proofs.Common.{◌≡◌, ℕ, ℤ, unwrap_or, append_assoc, zero, suc, ◌+◌, ◌-◌, ◌<◌, ◌≤◌, List, [], ◌∷◌, ◌++◌, length, map, Option, Some, None, Bool, true, false, not, cond, Result, Ok, Err, OnOk, find, position, slice_get, refl, sym, ap, subst, ◌∙◌, arith}
+use Rattle.std.proofs.lemmas.List.Concat.{flat_map-append}
+use Rattle.std.proofs.lemmas.List.Elements.{filter-append}
 use Rattle.std.specs.List.{filter_map, flat_map, range_with_len, cons_option}
 use Rattle.std.specs.Option.{option_map, option_to_list}
 use Rattle.roc_sequence.specs.Places.{NoneTwice}
@@ -81,12 +83,7 @@ module _ {E : Type 0} (plan : Plan) (id : TxnId) (number at : ℕ) (old new : Li
 -- ---- buffered ones
 
 pub buffered-append : (plan : Plan) (xs ys : List StartedGroup) → buffered plan (xs ++ ys) ≡ buffered plan xs ++ buffered plan ys
-buffered-append plan [] ys = refl
-buffered-append plan (x ∷ xs) ys = go (not (is_immediate_of plan x.proc x.group)) (buffered-append plan xs ys)
-  where
-    go : (b : Bool) → buffered plan (xs ++ ys) ≡ buffered plan xs ++ buffered plan ys → cond b (x ∷ buffered plan (xs ++ ys)) (buffered plan (xs ++ ys)) ≡ cond b (x ∷ buffered plan xs) (buffered plan xs) ++ buffered plan ys
-    go true ih = ap (λ zs. x ∷ zs) ih
-    go false ih = ih
+buffered-append plan xs ys = filter-append (λ (e : StartedGroup). not (is_immediate_of plan e.proc e.group)) xs ys
 
 buffered-unrun : (plan : Plan) (xs : List StartedGroup) → map unrun (buffered plan xs) ≡ buffered plan (map unrun xs)
 buffered-unrun plan [] = refl
@@ -181,10 +178,6 @@ takes_more plan all left rest id first now next before after later e sofar ran s
 abbrev pub given : List StartedGroup → List ℤ
 given es = flat_map (λ e. unwrap_or e.later []) es
 
-given-append : (xs ys : List StartedGroup) → given (xs ++ ys) ≡ given xs ++ given ys
-given-append [] ys = refl
-given-append (x ∷ xs) ys = ap (λ zs. unwrap_or x.later [] ++ zs) (given-append xs ys) ∙ sym (append_assoc (unwrap_or x.later []) (given xs) (given ys))
-
 pub given_more : (id : TxnId) (started : List StartedGroup) (number count : ℕ) (outs next all : List ℤ) → number < count → next ≡ outs ++ given (option_to_list (find_group id number started))
     → outs ++ given (groups_from id started number count) ≡ all → next ++ given (groups_from id started (number + 1) count) ≡ all
 given_more id started number count outs next all l is sofar =
@@ -192,5 +185,5 @@ given_more id started number count outs next all l is sofar =
     let rest = groups_from id started (number + 1) count in
     ap (λ xs. xs ++ given rest) is
     ∙ append_assoc outs (given o) (given rest)
-    ∙ ap (λ xs. outs ++ xs) (sym (given-append o rest) ∙ ap given (sym (groups_from-more id started number count l)))
+    ∙ ap (λ xs. outs ++ xs) (sym (flat_map-append (λ (e : StartedGroup). unwrap_or e.later []) o rest) ∙ ap given (sym (groups_from-more id started number count l)))
     ∙ sofar

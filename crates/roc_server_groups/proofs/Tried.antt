@@ -1,6 +1,7 @@
 -- What is tried of the groups, and is kept or undone
 use Rattle.std.proofs.Common.{◌≡◌, ◌<◌, ◌==◌, ℕ, ℤ, zero, suc, Bool, true, false, cond, not, ◌||◌, ◌&&◌, if◌then◌else◌, List, [], ◌∷◌, ◌++◌, Option, Some, None, length, filter, append-nil, refl, sym, ap, subst, ◌∙◌, inl, inr, arith}
 use Rattle.std.proofs.lemmas.Bool.{eqb-true, and_parts}
+use Rattle.std.proofs.lemmas.List.{nil_from_length}
 use Rattle.std.proofs.lemmas.List.Folds.{list_any-append}
 use Rattle.std.specs.List.{AllByRecursion}
 use Rattle.std.specs.Option.{option_map, option_to_list}
@@ -127,14 +128,10 @@ module _ {A : Type 0} (is : A → A → Bool) (p : A → Bool) where
     | false ↦ once_some xs once.1
   ]
 
-no_ids : (ids : List TxnId) → length ids ≡ 0 → ids ≡ []
-no_ids [] e = refl
-no_ids (t ∷ ts) e = absurd (omega (arith, e))
-
 -- where none are named, all stay
 pub none_forgotten : (over : List TxnId) (b : Bool) (es : List StartedGroup) → b ≡ (length over == 0) → b ≡ true → es ≡ others over es
 none_forgotten over b es is e =
-    let none : over ≡ [] = no_ids over (eqb-true (length over) 0 (sym is ∙ e)) in
+    let none : over ≡ [] = nil_from_length over (eqb-true (length over) 0 (sym is ∙ e)) in
     sym (filter_all (λ (x : StartedGroup). not (is_listed is_txn [] x.id)) es (λ x h. refl)) ∙ ap (λ ids. others ids es) (sym none)
 
 -- the index has the same references, where what is forgotten was decided and about the rest the same is

@@ -1,5 +1,5 @@
 -- What a table holds at each cell, once one cell has changed
-use Rattle.std.proofs.Common.{◌≡◌, ◌≤◌, ◌+◌, ℕ, arith, length, Bool, true, false, cond, if◌then◌else◌, List, [], ◌∷◌, Option, Some, None, Result, Ok, Err, OnErr, Vec, unwrap_or, refl, sym, ap, subst, ◌∙◌}
+use Rattle.std.proofs.Common.{◌≡◌, ◌≤◌, ◌+◌, ℕ, arith, Bool, true, false, cond, if◌then◌else◌, List, [], ◌∷◌, Option, Some, None, Result, Ok, Err, OnErr, Vec, unwrap_or, refl, sym, ap, subst, ◌∙◌}
 use Rattle.std.specs.declared.alloc.Global.{Global}
 use Rattle.std.specs.Map.{lookup}
 use Rattle.std.specs.Option.{option_map}
@@ -112,10 +112,6 @@ emptied cell change es fs gs h none k c = k c ∙ go (is_cell cell c) refl (h c)
     go : (t : Bool) → is_cell cell c ≡ t → group_refs_at c fs ≡ (if t then change (group_refs_at c es) else group_refs_at c es) → (if t then [] else group_refs_at c fs) ≡ (if t then change (group_refs_at c es) else group_refs_at c es)
     go true e at = sym (ap (λ d. group_refs_at d fs) (sym (is_cell-true cell c e)) ∙ none) ∙ at
     go false e at = at
-
-pub none_left : (ss : List GroupRef) → length ss ≡ 0 → ss ≡ []
-none_left [] h = refl
-none_left (s ∷ ss) h = absurd (omega arith)
 
 -- what holds, holds at an error
 pub on_err : {T E P : Type 0} (r : Result T E) → P → OnErr r P

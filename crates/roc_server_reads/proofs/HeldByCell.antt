@@ -1,6 +1,6 @@
 -- Which groups hold reads up is found cell by cell
 use Rattle.std.proofs.Common.{◌≡◌, Bool, true, false, cond, not, ◌&&◌, ◌||◌, if◌then◌else◌, List, [], ◌∷◌, Some, refl, sym, ap, ◌∙◌}
-use Rattle.std.proofs.lemmas.Bool.{false≢true}
+use Rattle.std.proofs.lemmas.Bool.{and_from, and_parts, or_parts}
 use Rattle.std.specs.List.{list_any}
 use Rattle.roc_sequence.specs.Places.{NoneTwice, is_listed}
 use Rattle.roc_sequence.proofs.Holds.{any_has, has_all, has_any, same_tests}
@@ -29,14 +29,10 @@ write_uses e c h = go e.cells h
     one true s k = k
     one false s k = refl
 
-    both : (x y : Bool) → (x || y) ≡ false → (x ≡ false) × (y ≡ false)
-    both true y k = absurd (false≢true (sym k))
-    both false y k = (refl, k)
-
     go : (us : List Access) → list_any (λ u. is_cell u.cell c) us ≡ false → do_write us c ≡ false
     go [] k = refl
     go (u ∷ us) k =
-        let p = both (is_cell u.cell c) (list_any (λ v. is_cell v.cell c) us) k in
+        let p = or_parts (is_cell u.cell c) (list_any (λ v. is_cell v.cell c) us) k in
         ap (λ b. b || do_write us c) (one u.writes (is_cell u.cell c) p.0) ∙ go us p.1
 
 module _ (decided newly : List TxnId) where
@@ -78,17 +74,6 @@ module _ (decided newly : List TxnId) where
 
   -- ---- over all cells
 
-  left_of_both : (a b : Bool) → (a && b) ≡ true → a ≡ true
-  left_of_both true b h = refl
-  left_of_both false b h = absurd (false≢true h)
-
-  right_of_both : (a b : Bool) → (a && b) ≡ true → b ≡ true
-  right_of_both true b h = h
-  right_of_both false b h = absurd (false≢true h)
-
-  both_hold : (a b : Bool) → a ≡ true → b ≡ true → (a && b) ≡ true
-  both_hold a b p q = ap (λ x. x && b) p ∙ q
-
   -- what is held up cell by cell is held up group by group
   turned : (uses : List Access) (es : List StartedGroup) → list_any (λ (a : Access). held es a.cell es) uses ≡ is_held_up decided_now uses es
   turned uses es =
@@ -96,15 +81,16 @@ module _ (decided newly : List TxnId) where
       (λ h.
       let a = any_has (λ (a : Access). held es a.cell es) uses h in
       let e = any_has (λ (e : StartedGroup). not (decided_now e.id) && do_write e.cells a.0.cell) es a.2 in
+      let p = and_parts (not (decided_now e.0.id)) (do_write e.0.cells a.0.cell) e.2 in
       has_any (λ (e : StartedGroup). not (decided_now e.id) && writes_one uses e) es e.0 e.1
-      (both_hold (not (decided_now e.0.id)) (writes_one uses e.0) (left_of_both (not (decided_now e.0.id)) (do_write e.0.cells a.0.cell) e.2)
-      (has_any (λ (a : Access). do_write e.0.cells a.cell) uses a.0 a.1 (right_of_both (not (decided_now e.0.id)) (do_write e.0.cells a.0.cell) e.2))))
+      (and_from (not (decided_now e.0.id)) (writes_one uses e.0) p.0 (has_any (λ (a : Access). do_write e.0.cells a.cell) uses a.0 a.1 p.1)))
       (λ h.
       let e = any_has (λ (e : StartedGroup). not (decided_now e.id) && writes_one uses e) es h in
-      let a = any_has (λ (a : Access). do_write e.0.cells a.cell) uses (right_of_both (not (decided_now e.0.id)) (writes_one uses e.0) e.2) in
+      let p = and_parts (not (decided_now e.0.id)) (writes_one uses e.0) e.2 in
+      let a = any_has (λ (a : Access). do_write e.0.cells a.cell) uses p.1 in
       has_any (λ (a : Access). held es a.cell es) uses a.0 a.1
       (has_any (λ (e : StartedGroup). not (decided_now e.id) && do_write e.cells a.0.cell) es e.0 e.1
-      (both_hold (not (decided_now e.0.id)) (do_write e.0.cells a.0.cell) (left_of_both (not (decided_now e.0.id)) (writes_one uses e.0) e.2) a.2)))
+      (and_from (not (decided_now e.0.id)) (do_write e.0.cells a.0.cell) p.0 a.2)))
 
   each_held : (es : List StartedGroup) (uses : List Access) → NoneTwice is_same_group es
       → list_any (λ (a : Access). list_any (holds_at es newly a.cell) (undecided_refs decided (group_refs_of a.cell es))) uses ≡ list_any (λ (a : Access). held es a.cell es) uses

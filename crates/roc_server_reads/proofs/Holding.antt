@@ -1,7 +1,7 @@
 -- A group that was found holds reads up
-use Rattle.std.proofs.Common.{◌≡◌, ◌&&◌, ◌+◌, ℕ, Bool, true, false, not, List, ◌∷◌, ◌++◌, Option, Some, None, take, drop, length, get_or, ◌<◌, refl, inl, sym, ap, subst, ◌∙◌}
+use Rattle.std.proofs.Common.{◌≡◌, ◌&&◌, ◌+◌, ℕ, true, false, not, List, ◌∷◌, ◌++◌, Option, Some, None, take, drop, length, get_or, ◌<◌, refl, inl, sym, ap, subst, ◌∙◌}
 use Rattle.std.proofs.lemmas.List.{take-append-drop}
-use Rattle.std.proofs.lemmas.Bool.{and_from, and_parts, false≢true, or_from}
+use Rattle.std.proofs.lemmas.Bool.{and_from, and_parts, false≢true, not-true, or_from}
 use Rattle.roc_sequence.specs.Lists.{Has}
 use Rattle.roc_sequence.specs.Places.{is_listed}
 use Rattle.roc_sequence.proofs.Found.{found_has}
@@ -19,10 +19,6 @@ use Rattle.roc_step.specs.State.{find_group, is_group}
 use Rattle.roc_server_reads.specs.Behind.{decided_behind, is_held_up, writes_one, HoldsUp, IsHolder, LeftBehind}
 use Rattle.roc_server_reads.specs.Inner.Holders.{holds_at, is_hint_right, writes_cell}
 use Rattle.roc_server_reads.specs.Looks.{is_held_by, writes_some}
-
-so_not : (b : Bool) → not b ≡ true → b ≡ false
-so_not true h = absurd (false≢true h)
-so_not false h = refl
 
 -- what stands at a place is there
 pub has_place : {A : Type 0} (xs : List A) (i : ℕ) (d : A) → i < length xs → Has (get_or xs i d) xs
@@ -44,7 +40,7 @@ module _ (b : LeftBehind) (uses : List Access) where
 
       go : (o : Option StartedGroup) → find_group r.id r.group b.started ≡ o → writes_some uses o ≡ true → HoldsUp b uses r
       go None found w = absurd (false≢true w)
-      go (Some e) found w = found_holds r e found (so_not (decided_behind b r.id) p.0) w
+      go (Some e) found w = found_holds r e found (not-true (decided_behind b r.id) p.0) w
 
   -- one that the index has at one of the cells
   pub indexed_holds : (a : Access) (r : GroupRef) → Has a uses → Has r (undecided_refs b.decided (group_refs_of a.cell b.started)) → holds_at b.started b.newly a.cell r ≡ true → HoldsUp b uses r
@@ -56,8 +52,8 @@ module _ (b : LeftBehind) (uses : List Access) where
       undecided : decided_behind b r.id ≡ false
       undecided =
           or_from (is_listed is_txn b.decided r.id) (is_listed is_txn b.newly r.id)
-          (so_not (is_listed is_txn b.decided r.id) (from_has_filter (λ (s : GroupRef). not (is_listed is_txn b.decided s.id)) r (group_refs_of a.cell b.started) has).1)
-          (so_not (is_listed is_txn b.newly r.id) p.0)
+          (not-true (is_listed is_txn b.decided r.id) (from_has_filter (λ (s : GroupRef). not (is_listed is_txn b.decided s.id)) r (group_refs_of a.cell b.started) has).1)
+          (not-true (is_listed is_txn b.newly r.id) p.0)
 
       go : (o : Option StartedGroup) → find_group r.id r.group b.started ≡ o → writes_cell a.cell o ≡ true → HoldsUp b uses r
       go None found w = absurd (false≢true w)
@@ -83,6 +79,6 @@ module _ (b : LeftBehind) (uses : List Access) where
         group = e;
         has = has_right e b.started b.starting there;
         is = same_own e;
-        undecided = so_not (decided_behind b e.id) p.0;
+        undecided = not-true (decided_behind b e.id) p.0;
         writes = p.1;
       }

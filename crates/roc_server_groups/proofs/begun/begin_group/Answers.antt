@@ -1,13 +1,8 @@
 -- Each part is that of the run, where the group is immediate, and else what it will use
-use Rattle.std.proofs.Common.{◌≡◌, ◌++◌, Bool, true, false, if◌then◌else◌, refl, sym, ap, ◌∙◌}
+use Rattle.std.proofs.Common.{◌++◌, sym, ap, ◌∙◌}
+use Rattle.std.proofs.lemmas.Bool.{cond-true, cond-false}
 use Rattle.roc_group.specs.GroupRun.{GroupCall, call, group_run, group_uses, bound_by_run}
 use Rattle.roc_server_groups.proofs.begun.begin_group.Goals as goal
-
-chosen : {A : Type 0} (b : Bool) (x y z : A) → b ≡ true → z ≡ x → z ≡ (if b then x else y)
-chosen b x y z h e = e ∙ sym (ap (λ t. if t then x else y) h)
-
-other : {A : Type 0} (b : Bool) (x y z : A) → b ≡ false → z ≡ y → z ≡ (if b then x else y)
-other b x y z h e = e ∙ sym (ap (λ t. if t then x else y) h)
 
 pub is_immediate-requires : goal.is_immediate-requires
 is_immediate-requires c = c.requires.exists
@@ -41,26 +36,26 @@ returns-then-is_immediate-clause-cells c =
 pub returns-then-is_immediate-clause-bound : goal.returns-then-is_immediate-clause-bound
 returns-then-is_immediate-clause-bound c =
     let k : GroupCall = call c.args.proc c.args.group c.args.known.now.args c.args.known.now.inputs in
-    chosen _ _ _ _ (sym c.is_immediate.ensures ∙ c.if-is_immediate.true)
-    (c.into_parts-bound.ensures.bound ∙ c.in_ok-run_group.ensures.bound ∙ ap (λ xs. xs ++ bound_by_run c.args.plan.now k c.args.rows.now.store) c.new-out.ensures.bound)
+    c.into_parts-bound.ensures.bound ∙ c.in_ok-run_group.ensures.bound ∙ ap (λ xs. xs ++ bound_by_run c.args.plan.now k c.args.rows.now.store) c.new-out.ensures.bound
+    ∙ sym (cond-true _ _ _ (sym c.is_immediate.ensures ∙ c.if-is_immediate.true))
 
 pub returns-then-is_immediate-clause-outs : goal.returns-then-is_immediate-clause-outs
 returns-then-is_immediate-clause-outs c =
     let k : GroupCall = call c.args.proc c.args.group c.args.known.now.args c.args.known.now.inputs in
-    chosen _ _ _ _ (sym c.is_immediate.ensures ∙ c.if-is_immediate.true)
-    (c.into_parts-bound.ensures.outs ∙ c.in_ok-run_group.ensures.outs ∙ ap (λ xs. xs ++ (group_run c.args.plan.now k c.args.rows.now.store).reply) c.new-out.ensures.outs)
+    c.into_parts-bound.ensures.outs ∙ c.in_ok-run_group.ensures.outs ∙ ap (λ xs. xs ++ (group_run c.args.plan.now k c.args.rows.now.store).reply) c.new-out.ensures.outs
+    ∙ sym (cond-true _ _ _ (sym c.is_immediate.ensures ∙ c.if-is_immediate.true))
 
 pub returns-then-is_immediate-clause-store : goal.returns-then-is_immediate-clause-store
-returns-then-is_immediate-clause-store c = chosen _ _ _ _ (sym c.is_immediate.ensures ∙ c.if-is_immediate.true) c.in_ok-run_group.ensures.store
+returns-then-is_immediate-clause-store c = c.in_ok-run_group.ensures.store ∙ sym (cond-true _ _ _ (sym c.is_immediate.ensures ∙ c.if-is_immediate.true))
 
 pub returns-clause-cells : goal.returns-clause-cells
 returns-clause-cells c = c.in_ok-cells.ensures c.args.rows.now.store
 
 pub returns-clause-bound : goal.returns-clause-bound
-returns-clause-bound c = other _ _ _ _ (sym c.is_immediate.ensures ∙ c.if-is_immediate.false) c.new.ensures
+returns-clause-bound c = c.new.ensures ∙ sym (cond-false _ _ _ (sym c.is_immediate.ensures ∙ c.if-is_immediate.false))
 
 pub returns-clause-outs : goal.returns-clause-outs
-returns-clause-outs c = other _ _ _ _ (sym c.is_immediate.ensures ∙ c.if-is_immediate.false) c.new-2.ensures
+returns-clause-outs c = c.new-2.ensures ∙ sym (cond-false _ _ _ (sym c.is_immediate.ensures ∙ c.if-is_immediate.false))
 
 pub returns-clause-store : goal.returns-clause-store
-returns-clause-store c = other _ _ _ _ (sym c.is_immediate.ensures ∙ c.if-is_immediate.false) refl
+returns-clause-store c = sym (cond-false _ _ _ (sym c.is_immediate.ensures ∙ c.if-is_immediate.false))

@@ -1,6 +1,7 @@
 -- The group that is lent is the one that stands at the index, so its run is that one's
-use Rattle.std.proofs.Common.{◌≡◌, ◌∙◌, ℕ, ℤ, List, Some, slice_set, get_or, Result, Ok, Err, OnOk, ap, subst, sym}
+use Rattle.std.proofs.Common.{◌≡◌, ◌∙◌, ℕ, ℤ, List, Some, slice_set, get_or, ap, subst, sym}
 use Rattle.std.proofs.lemmas.Option.{get_or_from_slice_get}
+use Rattle.std.proofs.lemmas.Result.{on_ok_weaker}
 use Rattle.roc_sequence.proofs.Holds.{all_at}
 use Rattle.roc_group.specs.GroupRun.{group_run}
 use Rattle.roc_plan.specs.Groups.{Plan}
@@ -24,13 +25,9 @@ runs plan lent e at old new before after given same s r n = record {
   groups = n ∙ ap (λ xs. slice_set old at (record e { later = Some xs })) (r ∙ ap (λ x. (group_run plan (group_call x) before).reply) same);
 }
 
-on_ok : {A B : Type 0} {E : Type 0} (r : Result (Unit {0}) E) → (A → B) → OnOk r A → OnOk r B
-on_ok (Ok u) f a = f a
-on_ok (Err e) f a = tt
-
 pub returns-clause-runs : goal.returns-clause-runs
 returns-clause-runs c =
-    on_ok c.keep_given.result (λ kept e stands.
+    on_ok_weaker c.keep_given.result (λ kept e stands.
     let lent = c.index-as_slice-at.result in
     let same : lent ≡ e =
     c.index-as_slice-at.is ∙ ap (λ (es : List StartedGroup). get_or es c.args.at lent) c.as_slice.ensures ∙ get_or_from_slice_get c.args.started.now.groups c.args.at e lent stands in

@@ -1,6 +1,7 @@
-use Rattle.std.proofs.Common.{◌≡◌, ◌∙◌, ℕ, true, false, List, Some, slice_get, get_or, Result, Ok, Err, OnOk, refl, sym, ap}
+use Rattle.std.proofs.Common.{◌≡◌, ◌∙◌, ℕ, true, false, List, Some, slice_get, get_or, refl, sym, ap}
 use Rattle.std.proofs.lemmas.Bool.{false≢true}
 use Rattle.std.proofs.lemmas.Option.{get_or_from_slice_get}
+use Rattle.std.proofs.lemmas.Result.{on_ok_weaker}
 use Rattle.roc_plan.specs.Groups.{Plan, is_immediate_of}
 use Rattle.roc_rows.specs.Store.{Store}
 use Rattle.roc_step.specs.declared.started.StartedGroup.{StartedGroup}
@@ -22,13 +23,9 @@ pub returns-then-is_immediate-clause-runs : goal.returns-then-is_immediate-claus
 returns-then-is_immediate-clause-runs c e stands =
     left_as_it_is c.args.plan.now c.args.at c.args.started.now.groups c.as_slice.result.now c.index-as_slice-at.result e c.as_slice.ensures c.index-as_slice-at.is stands c.args.rows.now.store c.if-is_immediate.ensures
 
-on_ok : {A B : Type 0} {E : Type 0} (r : Result (Unit {0}) E) → (A → B) → OnOk r A → OnOk r B
-on_ok (Ok u) f a = f a
-on_ok (Err e) f a = tt
-
 pub returns-clause-runs : goal.returns-clause-runs
 returns-clause-runs c =
-    on_ok c.run_at.result
+    on_ok_weaker c.run_at.result
     (λ ran e stands.
     runs c.args.plan.now c.args.at c.args.started.now.groups c.as_slice.result.now c.index-as_slice-at.result e c.as_slice.ensures c.index-as_slice-at.is stands c.run_at.new.started.groups c.args.rows.now.store c.run_at.new.rows.store c.if-is_immediate.ensures
     (ran e stands))

@@ -1,10 +1,11 @@
 use Rattle.std.proofs.Common.{rules, arith, ◌≡◌, ◌∙◌, [], Some, None, length, sym, ap, subst}
 use Rattle.std.specs.Map.{lookup}
 use Rattle.std.proofs.lemmas.Bool.{eqb-true, eqb-false}
+use Rattle.std.proofs.lemmas.List.{nil_from_length}
 use Rattle.roc_rows.specs.Cells.{is_cell}
 use Rattle.roc_server_index.specs.GroupRefs.{cell_refs_at, group_refs_at, without, ChangesAt}
 use Rattle.roc_server_index.specs.Inner.Held.{held, cell_refs}
-use Rattle.roc_server_index.proofs.Changed.{found, refs_in, cell_refs_found, none_held, set_at, changes, stays, none_left}
+use Rattle.roc_server_index.proofs.Changed.{found, refs_in, cell_refs_found, none_held, set_at, changes, stays}
 use Rattle.roc_server_index.proofs.index.empties.Goals as goal
 
 pub returns-in-Some-clause-changes : goal.returns-in-Some-clause-changes
@@ -18,7 +19,7 @@ returns-in-Some-clause-none c e =
     let now = (c.get_mut.follows.holds c.take_out_all.new.group_refs).3 (search rules) in
     let empty = eqb-true _ 0 (sym c.is_empty.ensures ∙ e) in
     let none : length c.take_out_all.new.group_refs.items ≡ 0 = omega (arith, c.take_out_all.new.group_refs.ok, empty) in
-    ap refs_in (cell_refs_found c.args.cell _ ∙ ap found now.1) ∙ none_left c.take_out_all.new.group_refs.items none
+    ap refs_in (cell_refs_found c.args.cell _ ∙ ap found now.1) ∙ nil_from_length c.take_out_all.new.group_refs.items none
 
 pub returns-in-Some-clause-some : goal.returns-in-Some-clause-some
 returns-in-Some-clause-some c e empty =
