@@ -165,7 +165,7 @@ module _ (plan : Plan) (shard : Shard) (left_out : List TxnId) (id : TxnId) (imm
       (has_flat_map (λ a. before (a ∷ []) es) (entry g.0) a.0 cells a.1 (has_map entry g.0 (filter (conflicts_before plan left_out id immediate (a.0 ∷ [])) es) (has_filter (conflicts_before plan left_out id immediate (a.0 ∷ [])) g.0 es e.0 passes)))
 
   -- cell by cell, with repetitions, it is the same list
-  pub over_cells : (cells : List Access) (es : List StartedGroup) → united (flat_map (λ a. before (a ∷ []) es) cells) ≡ united (before cells es)
+  over_cells : (cells : List Access) (es : List StartedGroup) → united (flat_map (λ a. before (a ∷ []) es) cells) ≡ united (before cells es)
   over_cells cells es = same_members (flat_map (λ a. before (a ∷ []) es) cells) (before cells es) (λ d. (of_any cells es d, in_any cells es d))
 
   each_met : (index : List (Cell × CellRefs)) (es : List StartedGroup) (cells : List Access) → NoneTwice is_same_group es → IsIndexOf index left_out es → flat_map (λ a. met_at es a (group_refs_at a.cell index)) cells ≡ flat_map (λ a. before (a ∷ []) es) cells

@@ -19,12 +19,12 @@ use Rattle.roc_step.specs.State.{is_group, find_group, unrun, ServerState}
 use Rattle.roc_sequence.proofs.Found.{found_at, found_within, set_where_it_stands}
 use Rattle.roc_server_groups.proofs.SameGroups.{same_own, same_swap, set_same, fits_same, once_same, find_same}
 
-pub run_groups-append : (plan : Plan) (s : ServerState) (xs ys : List StartedGroup) → run_groups plan s (xs ++ ys) ≡ run_groups plan (run_groups plan s xs) ys
+run_groups-append : (plan : Plan) (s : ServerState) (xs ys : List StartedGroup) → run_groups plan s (xs ++ ys) ≡ run_groups plan (run_groups plan s xs) ys
 run_groups-append plan s [] ys = refl
 run_groups-append plan s (x ∷ xs) ys = run_groups-append plan (run_group plan s x) xs ys
 
 -- what they gave before does not matter
-pub run_groups-same : (plan : Plan) (s : ServerState) (xs ys : List StartedGroup) → map unrun xs ≡ map unrun ys → run_groups plan s xs ≡ run_groups plan s ys
+run_groups-same : (plan : Plan) (s : ServerState) (xs ys : List StartedGroup) → map unrun xs ≡ map unrun ys → run_groups plan s xs ≡ run_groups plan s ys
 run_groups-same plan s [] [] same = refl
 run_groups-same plan s [] (y ∷ ys) same = cc
 run_groups-same plan s (x ∷ xs) [] same = cc
@@ -39,7 +39,7 @@ ran_at plan e at old new before after s once got ran =
     let set = set_where_it_stands is_same_group same_own same_swap (λ (g : StartedGroup). record g { later = Some reply }) old at e once got in
     λ i. holding s (sym ran.store i) ((sym set ∙ sym ran.groups) i)
 
-pub ran_same : (plan : Plan) (e : StartedGroup) (at : ℕ) (old new : List StartedGroup) (before after : Store) → slice_get old at ≡ Some e → RunsAt plan e at old new before after → AreSameGroups old new
+ran_same : (plan : Plan) (e : StartedGroup) (at : ℕ) (old new : List StartedGroup) (before after : Store) → slice_get old at ≡ Some e → RunsAt plan e at old new before after → AreSameGroups old new
 ran_same plan e at old new before after got ran =
     let gave : StartedGroup = record e { later = Some (group_run plan (group_call e) before).reply } in
     subst (AreSameGroups old) (sym ran.groups) (set_same old at e gave got refl)
@@ -112,7 +112,7 @@ pub groups_from-end : (id : TxnId) (started : List StartedGroup) (number count :
 groups_from-end id started number count l =
     let e : count - number ≡ 0 = omega arith in ap (λ n. filter_map (λ k. find_group id k started) (range_with_len number n)) e
 
-pub groups_from-start : (id : TxnId) (started : List StartedGroup) (count : ℕ) → groups_from id started 0 count ≡ filter_map (λ k. find_group id k started) (range_with_len 0 count)
+groups_from-start : (id : TxnId) (started : List StartedGroup) (count : ℕ) → groups_from id started 0 count ≡ filter_map (λ k. find_group id k started) (range_with_len 0 count)
 groups_from-start id started count =
     let e : count - 0 ≡ count = omega arith in ap (λ n. filter_map (λ k. find_group id k started) (range_with_len 0 n)) e
 

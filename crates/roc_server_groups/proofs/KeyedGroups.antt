@@ -144,7 +144,7 @@ keys-set (x ∷ xs) (suc at) e w got same = ap (λ l. group_key_of x ∷ l) (key
 -- ---- those of one transaction, number by number
 
 module _ (id : TxnId) where
-  abbrev pub is_up_to : ℕ → StartedGroup → Bool
+  abbrev is_up_to : ℕ → StartedGroup → Bool
   is_up_to n e = is_txn e.id id && nat_lt e.group n
 
   none_up : (e : StartedGroup) → is_up_to 0 e ≡ false

@@ -44,7 +44,7 @@ group_found (x ∷ xs) e once (inr h) = ap (λ b. cond b (Some x) (find_group e.
 group_ref_more : (es : List StartedGroup) (e : StartedGroup) (c : Cell) (s : GroupRef) → IsGroupRefOf es c s → IsGroupRefOf (e ∷ es) c s
 group_ref_more es e c s h = record { group = h.group; has = inr h.has; is = h.is; used = h.used }
 
-pub group_ref_is : (c : Cell) (es : List StartedGroup) (s : GroupRef) → Has s (group_refs_of c es) → IsGroupRefOf es c s
+group_ref_is : (c : Cell) (es : List StartedGroup) (s : GroupRef) → Has s (group_refs_of c es) → IsGroupRefOf es c s
 group_ref_is c [] s k = absurd k
 group_ref_is c (e ∷ es) s k = go (uses_cell c e) refl k (group_ref_is c es s)
   where

@@ -32,7 +32,7 @@ module _ (b : LeftBehind) (uses : List Access) where
       let same : e.id ≡ r.id = is_txn-true e.id r.id (and_parts (is_txn e.id r.id) _ k.1).0 in
       record { group = e; has = has_left e b.started b.starting k.0; is = k.1; undecided = ap (decided_behind b) same ∙ undecided; writes = writes }
 
-  pub hint_holds : (r : GroupRef) → is_held_by b uses r ≡ true → HoldsUp b uses r
+  hint_holds : (r : GroupRef) → is_held_by b uses r ≡ true → HoldsUp b uses r
   hint_holds r h = go (find_group r.id r.group b.started) refl p.1
     where
       p : (not (decided_behind b r.id) ≡ true) × (writes_some uses (find_group r.id r.group b.started) ≡ true)
