@@ -3,11 +3,11 @@ ghost use Rattle.std.specs.Prelude.{◌≡◌, ◌<◌, ◌++◌, [], length, un
 ghost use Rattle.std.specs.Option.{option_to_list};
 ghost use Rattle.roc_sequence.specs.Places.{NoneTwice};
 ghost use Rattle.roc_group.specs.GroupRun.{call, group_run};
-ghost use Rattle.roc_step.specs.Runs.{buffered_here, group_call, outs_here, run_groups, take_all};
+ghost use Rattle.roc_step.specs.Runs.{buffered_here, group_call, outs_here, take_all};
 ghost use Rattle.roc_step.specs.declared.started.StartedGroup.{StartedGroup as Group};
 ghost use Rattle.roc_step.specs.Fits.{AreGroupsOf, IsCallOf};
 ghost use Rattle.roc_server_groups.specs.Groups.{holding, is_same_group, AreSameGroups};
-ghost use Rattle.roc_server_groups.specs.Inner.Runs.{buffered, RunsAt, RunsIfBuffered};
+ghost use Rattle.roc_server_groups.specs.Inner.Runs.{buffered, RunTo, RunsAt, RunsIfBuffered};
 ghost use Rattle.roc_server_groups.specs.Inner.Restored.{restored, with_later_at};
 ghost use Rattle.roc_step.specs.State.{find_group, ServerState};
 
@@ -65,7 +65,7 @@ fn run_transaction(
 ) -> Result<(), NoMemory>
     requires fits { AreGroupsOf plan.now started.old.groups }
     requires once { NoneTwice is_same_group started.old.groups }
-    ensures runs { OnOk result ((s : ServerState) → run_groups plan.now (holding s rows.old.store started.old.groups) (buffered_here plan.now id started.old.groups) ≡ holding s rows.new.store started.new.groups) }
+    ensures runs { OnOk result (RunTo plan.now (buffered_here plan.now id started.old.groups) started.old.groups started.new.groups rows.old.store rows.new.store) }
     ensures groups { OnOk result (AreSameGroups started.old.groups started.new.groups) }
     ensures restored { restored earlier.new.items started.new.groups ≡ restored earlier.old.items started.old.groups }
     ensures spare { started.new.spare ≡ started.old.spare }
@@ -90,8 +90,8 @@ fn run_number(
 ) -> Result<(), NoMemory>
     requires fits { AreGroupsOf plan.now started.old.groups }
     requires once { NoneTwice is_same_group started.old.groups }
-    ensures runs { OnOk result ((s : ServerState)
-        → run_groups plan.now (holding s rows.old.store started.old.groups) (buffered plan.now (option_to_list (find_group id number started.old.groups))) ≡ holding s rows.new.store started.new.groups) }
+    ensures runs { OnOk result (RunTo plan.now (buffered plan.now (option_to_list (find_group id number started.old.groups)))
+        started.old.groups started.new.groups rows.old.store rows.new.store) }
     ensures groups { OnOk result (AreSameGroups started.old.groups started.new.groups) }
     ensures restored { restored earlier.new.items started.new.groups ≡ restored earlier.old.items started.old.groups }
     ensures spare { started.new.spare ≡ started.old.spare }
