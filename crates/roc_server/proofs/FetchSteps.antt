@@ -16,7 +16,7 @@ use Rattle.roc_step.specs.Carried.{list_with}
 use Rattle.roc_step.specs.Lists.{after_fetch, fetch_taken, settled_to}
 use Rattle.roc_step.specs.Runs.{accesses_of}
 use Rattle.roc_sequence.specs.Lists.{Has}
-use Rattle.roc_server_groups.specs.GroupsNow.{groups_behind, others}
+use Rattle.roc_server_groups.specs.GroupsNow.{groups_behind, groups_without}
 use Rattle.roc_server_lists.specs.ListsNow.{lists_behind, over_of, tried_or, with_one_asking, IsNoneLeft, ListsNow}
 use Rattle.roc_server.specs.declared.parts.ServerParts.{ServerParts}
 use Rattle.roc_server.specs.Inner.Parts.{state_behind, state_of, CanRelease, IsIdle, IsSound}
@@ -99,7 +99,7 @@ module _ (k : ServerParts) (idle : IsIdle k) (asker : Asker) (lists : ListsNow) 
     below = (sym asked_lists i).below;
   }
 
-  pub asked_can : IsSound k → ((started : List StartedGroup) → IsNoneLeft started k.lists.kept.lists → IsNoneLeft (others (over_of lists.tried) started) (lists_behind lists).lists) → CanRelease new
+  pub asked_can : IsSound k → ((started : List StartedGroup) → IsNoneLeft started k.lists.kept.lists → IsNoneLeft (groups_without (over_of lists.tried) started) (lists_behind lists).lists) → CanRelease new
   asked_can sound left = record {
     left = left (k.groups.ran ++ k.groups.starting) (subst (λ (es : List StartedGroup). IsNoneLeft es k.lists.kept.lists) (sym (all_idle k.groups idle.groups)) sound.left);
     starting = λ e has. absurd (subst (Has e) idle.groups.starting has);

@@ -15,14 +15,14 @@ use Rattle.roc_step.specs.Forgets.{over}
 use Rattle.roc_step.specs.New.{AreDecided}
 use Rattle.roc_server.specs.declared.parts.ServerParts.{ServerParts}
 use Rattle.roc_server.specs.Inner.Parts.{state_behind, state_of, CanRelease, IsIdle, IsSound, Keeps}
-use Rattle.roc_server_groups.specs.GroupsNow.{groups_behind, others, AreDecidedBehind, GroupsNow, IsUntried}
+use Rattle.roc_server_groups.specs.GroupsNow.{groups_behind, groups_without, AreDecidedBehind, GroupsNow, IsUntried}
 use Rattle.roc_server_groups.proofs.IndexSteps.{filter_all}
 use Rattle.roc_server_lists.specs.ListsNow.{lists_behind, newly_of, over_of, tried_or, AreSound, IsNoneLeft, KeptLists, ListsNow}
 use Rattle.roc_server_taken.specs.Components.{AreOver}
 
 -- ---- nothing is tried
 
-pub others_none : (es : List StartedGroup) → others [] es ≡ es
+pub others_none : (es : List StartedGroup) → groups_without [] es ≡ es
 others_none es = filter_all (λ (e : StartedGroup). not (is_listed is_txn [] e.id)) es (λ e h. refl)
 
 -- behind what was not tried the groups are those that were kept
@@ -70,7 +70,7 @@ keeps_state old new was saved k shard i = record {
 
 -- the groups that stay, by either list of what is over
 pub others_over : (below : List ℕ) (taken : List (List TxnId)) (ids : List TxnId) → AreOver below taken ids → (es : List StartedGroup)
-    → filter (λ e. not (is_listed is_txn (over below taken) e.id)) es ≡ others ids es
+    → filter (λ e. not (is_listed is_txn (over below taken) e.id)) es ≡ groups_without ids es
 others_over below taken ids are es i = filter (λ e. not (tests e.id i)) es
   where
     tests : (t : TxnId) → is_listed is_txn (over below taken) t ≡ is_listed is_txn ids t

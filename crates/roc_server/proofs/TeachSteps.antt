@@ -18,7 +18,7 @@ use Rattle.roc_step.specs.New.{AreDecided, AreNewTaken}
 use Rattle.roc_step.specs.Asking.{knowns_for, fetch_from}
 use Rattle.roc_step.specs.Lists.{links_of, lists_after, taught}
 use Rattle.roc_server_groups.specs.Groups.{holding}
-use Rattle.roc_server_groups.specs.GroupsNow.{others, RunsDecided}
+use Rattle.roc_server_groups.specs.GroupsNow.{groups_without, RunsDecided}
 use Rattle.roc_server_lists.specs.ListsNow.{IsTaught, TriedLists}
 use Rattle.roc_server.specs.Inner.Taught.{newly_told, own_again, with_own, Teaches}
 use Rattle.roc_step.specs.State.{is_here, ServerState, ServerStep}
@@ -38,7 +38,7 @@ newly_decided links later decided components are chosen =
 
 -- the state that a step leaves, by its parts
 abbrev pub state_then : ServerState → Store → List StartedGroup → TriedLists → ServerState
-state_then s store ran t = record { shard = s.shard; store = store; started = others t.over ran; lists = t.kept.lists; below = t.kept.below }
+state_then s store ran t = record { shard = s.shard; store = store; started = groups_without t.over ran; lists = t.kept.lists; below = t.kept.below }
 
 module _ (plan : Plan) (s : ServerState) (decided : List TxnId) (are : AreDecided s.lists.links decided) (news : List KnownList) (again : Option TxnId) (t : TriedLists) (h : IsTaught s decided news t)
     (store : Store) (ran : List StartedGroup) (before told done after : Collected) (first : HasSent before told (flat_map (knowns_for s.lists.waiting.askers) news))

@@ -21,7 +21,7 @@ use Rattle.roc_step.specs.Lists.{after_ended}
 use Rattle.roc_step.specs.State.{hearing, unrun, Lists, ServerState}
 use Rattle.roc_step.specs.Waits.{was_asked_for}
 use Rattle.roc_server_groups.specs.Groups.{AreSameGroups}
-use Rattle.roc_server_groups.specs.GroupsNow.{groups_behind, others, GroupsNow, RunsDecided}
+use Rattle.roc_server_groups.specs.GroupsNow.{groups_behind, groups_without, GroupsNow, RunsDecided}
 use Rattle.roc_server_groups.proofs.SameGroups.{fits_same, fits_some, here_same}
 use Rattle.roc_server_lists.specs.ListsNow.{asks_of, lists_behind, newly_of, over_of, IsHeard, IsNoneLeft, IsSettledBy, IsTaught, IsTried, ListsNow, TriedLists}
 use Rattle.roc_server.specs.declared.parts.ServerParts.{ServerParts}
@@ -40,12 +40,12 @@ all_ran g none = ap (λ es. g.ran ++ es) none ∙ append-nil g.ran
 
 pub fits_behind : (plan : Plan) (ids : List TxnId) (g : GroupsNow) → AreSameGroups g.kept g.ran → g.starting ≡ [] → AreGroupsOf plan g.kept → AreGroupsOf plan (groups_behind ids g)
 fits_behind plan ids g same none fits =
-    subst (λ es. AreGroupsOf plan (others ids es)) (sym (all_ran g none))
+    subst (λ es. AreGroupsOf plan (groups_without ids es)) (sym (all_ran g none))
     (fits_some plan (λ (e : StartedGroup). not (is_listed is_txn ids e.id)) g.ran (fits_same plan g.kept g.ran same fits))
 
 -- ---- it can be kept
 
-others_same : (ids : List TxnId) (old new : List StartedGroup) → AreSameGroups old new → AreSameGroups (others ids old) (others ids new)
+others_same : (ids : List TxnId) (old new : List StartedGroup) → AreSameGroups old new → AreSameGroups (groups_without ids old) (groups_without ids new)
 others_same ids old new same = over_same unrun (λ (e : StartedGroup). not (is_listed is_txn ids e.id)) (λ e. refl) (λ e. refl) old new same
 
 -- who is here is all that is asked of groups
@@ -54,12 +54,12 @@ left_same l old new same none =
     subst (λ (here : TxnId → Bool). AllByRecursion (λ d. (not (is_known l.links d.from) && (not (here d.from) && not (was_asked_for d.from l.waiting.asked))) ≡ false) (all_entries l.links))
     (sym (λ i id. here_same id old new same i)) none
 
-pub can_release : (k : ServerParts) → AreSameGroups k.groups.kept k.groups.ran → k.groups.starting ≡ [] → IsNoneLeft (others (over_of k.lists.tried) k.groups.kept) (lists_behind k.lists).lists → CanRelease k
+pub can_release : (k : ServerParts) → AreSameGroups k.groups.kept k.groups.ran → k.groups.starting ≡ [] → IsNoneLeft (groups_without (over_of k.lists.tried) k.groups.kept) (lists_behind k.lists).lists → CanRelease k
 can_release k same none left =
     let ids = over_of k.lists.tried in
     let lists = (lists_behind k.lists).lists in
     record {
-      left = subst (λ es. IsNoneLeft (others ids es) lists) (sym (all_ran k.groups none)) (left_same lists (others ids k.groups.kept) (others ids k.groups.ran) (others_same ids k.groups.kept k.groups.ran same) left);
+      left = subst (λ es. IsNoneLeft (groups_without ids es) lists) (sym (all_ran k.groups none)) (left_same lists (groups_without ids k.groups.kept) (groups_without ids k.groups.ran) (others_same ids k.groups.kept k.groups.ran same) left);
       starting = λ e has. absurd (subst (Has e) none has);
     }
 
@@ -76,7 +76,7 @@ tried_is P (Some t) h = (t, refl, h)
 
 behind_tried : (s : ServerState) (k : ServerParts) (t : TriedLists) → k.lists.tried ≡ Some t → k.groups.starting ≡ [] → state_then s k.rows.store k.groups.ran t ≡ state_behind s.shard k
 behind_tried s k t is none =
-    (λ i. record { shard = s.shard; store = k.rows.store; started = others t.over (sym (all_ran k.groups none) i); lists = t.kept.lists; below = t.kept.below })
+    (λ i. record { shard = s.shard; store = k.rows.store; started = groups_without t.over (sym (all_ran k.groups none) i); lists = t.kept.lists; below = t.kept.below })
     ∙ ap (λ o. state_behind s.shard (record k { lists = record k.lists { tried = o } })) (sym is)
 
 -- ---- a watermark is heard

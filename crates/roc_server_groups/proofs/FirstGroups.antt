@@ -16,7 +16,7 @@ use Rattle.roc_base.proofs.Ids.{is_listed-any}
 use Rattle.roc_step.specs.declared.started.StartedGroup.{StartedGroup}
 use Rattle.roc_step.specs.State.{is_group, is_here}
 use Rattle.roc_server_groups.specs.declared.group_key.GroupKey.{GroupKey}
-use Rattle.roc_server_groups.specs.GroupsNow.{others}
+use Rattle.roc_server_groups.specs.GroupsNow.{groups_without}
 use Rattle.roc_server_groups.specs.Inner.Keyed.{AreFirsts, group_key_of}
 use Rattle.roc_server_groups.proofs.Placed.{position-none}
 
@@ -166,7 +166,7 @@ without_more ids k d old mid new within so_far step id =
     both true false = refl
     both false b = refl
 
-pub firsts_left : (ids : List TxnId) (old new : List (TxnId × ℕ)) → AreWithout ids old new → (es : List StartedGroup) → AreFirsts old es → AreFirsts new (others ids es)
+pub firsts_left : (ids : List TxnId) (old new : List (TxnId × ℕ)) → AreWithout ids old new → (es : List StartedGroup) → AreFirsts old es → AreFirsts new (groups_without ids es)
 firsts_left ids old new gone es f id =
     gone id ∙ ap (λ b. cond b None (lookup (is_txn id) old)) (sym (is_listed-any ids id)) ∙ go (is_listed is_txn ids id)
     ∙ ap (option_map number_of) (sym (found_left (λ t. not (is_listed is_txn ids t)) id es))

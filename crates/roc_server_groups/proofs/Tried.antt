@@ -24,7 +24,7 @@ use Rattle.roc_step.specs.Start.{uses_cell}
 use Rattle.roc_step.specs.State.{find_group, is_group, unrun}
 use Rattle.roc_server_groups.specs.declared.runs.Earlier.{Earlier}
 use Rattle.roc_server_groups.specs.Groups.{is_same_group, AreSameGroups}
-use Rattle.roc_server_groups.specs.GroupsNow.{others, AreDecidedBehind, AreOnce, IsUntried}
+use Rattle.roc_server_groups.specs.GroupsNow.{groups_without, AreDecidedBehind, AreOnce, IsUntried}
 use Rattle.roc_server_groups.specs.Indexed.{group_ref_of, group_refs_of, undecided_refs, AreGroupRefsOf, IsGroupRefOf, IsIndexOf}
 use Rattle.roc_server_groups.specs.Inner.Changes.{AreOut, IsAddedAt}
 use Rattle.roc_server_groups.specs.Inner.Tried.{AreTried, CanEnter, HasRoomToEnter}
@@ -129,10 +129,10 @@ module _ {A : Type 0} (is : A → A → Bool) (p : A → Bool) where
   ]
 
 -- where none are named, all stay
-pub none_forgotten : (over : List TxnId) (b : Bool) (es : List StartedGroup) → b ≡ (length over == 0) → b ≡ true → es ≡ others over es
+pub none_forgotten : (over : List TxnId) (b : Bool) (es : List StartedGroup) → b ≡ (length over == 0) → b ≡ true → es ≡ groups_without over es
 none_forgotten over b es is e =
     let none : over ≡ [] = nil_from_length over (eqb-true (length over) 0 (sym is ∙ e)) in
-    sym (filter_all (λ (x : StartedGroup). not (is_listed is_txn [] x.id)) es (λ x h. refl)) ∙ ap (λ ids. others ids es) (sym none)
+    sym (filter_all (λ (x : StartedGroup). not (is_listed is_txn [] x.id)) es (λ x h. refl)) ∙ ap (λ ids. groups_without ids es) (sym none)
 
 -- the index has the same references, where what is forgotten was decided and about the rest the same is
 index_left : (forgotten : TxnId → Bool) (before after : List TxnId) → ((t : TxnId) → forgotten t ≡ true → is_listed is_txn before t ≡ true)
@@ -163,7 +163,7 @@ not_over : (b c : Bool) → c ≡ false → (b && not c) ≡ b
 not_over true c e = ap not e
 not_over false c e = refl
 
-pub index_released : (old new : Index) (before newly over after : List TxnId) (es : List StartedGroup) → IsIndexOf old before es → AreOut newly old new → AreDecidedBehind before newly over after → IsIndexOf new after (others over es)
+pub index_released : (old new : Index) (before newly over after : List TxnId) (es : List StartedGroup) → IsIndexOf old before es → AreOut newly old new → AreDecidedBehind before newly over after → IsIndexOf new after (groups_without over es)
 index_released old new before newly over after es h out d c =
     index_decided old new before newly (before ++ newly) es es h out refl (either_listed before newly) c
     ∙ index_left (is_listed is_txn over) (before ++ newly) after
@@ -173,7 +173,7 @@ index_released old new before newly over after es h out d c =
 -- ---- behind a step each group that is left is there once
 
 pub once_behind : (ran : List StartedGroup) (starting : Option StartedGroup) (over : List TxnId) → NoneTwice is_same_group ran → ((e : StartedGroup) → Has e (option_to_list starting) → find_group e.id e.group ran ≡ None)
-    → NoneTwice is_same_group (others over (ran ++ option_to_list starting))
+    → NoneTwice is_same_group (groups_without over (ran ++ option_to_list starting))
 once_behind ran starting over once absent = once_some is_same_group (λ (e : StartedGroup). not (is_listed is_txn over e.id)) (ran ++ option_to_list starting) (go starting absent)
   where
     go : (o : Option StartedGroup) → ((e : StartedGroup) → Has e (option_to_list o) → find_group e.id e.group ran ≡ None) → NoneTwice is_same_group (ran ++ option_to_list o)

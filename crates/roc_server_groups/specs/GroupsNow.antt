@@ -34,12 +34,12 @@ pub record AreOnce (g : GroupsNow) : Type 0 where
   pub absent : (e : StartedGroup) → Has e g.starting → find_group e.id e.group g.kept ≡ None
 
 -- the groups of other transactions than these
-abbrev pub others : (over : List TxnId) → List StartedGroup → List StartedGroup
-others over es = filter (λ e. not (is_listed is_txn over e.id)) es
+abbrev pub groups_without : (over : List TxnId) → List StartedGroup → List StartedGroup
+groups_without over es = filter (λ e. not (is_listed is_txn over e.id)) es
 
 -- the groups behind the step, which forgets those of these transactions
 abbrev pub groups_behind : (over : List TxnId) → GroupsNow → List StartedGroup
-groups_behind over g = others over (g.ran ++ g.starting)
+groups_behind over g = groups_without over (g.ran ++ g.starting)
 
 -- of these groups no transaction is decided
 abbrev pub AreUndecided : (decided : List TxnId) → List StartedGroup → Type 0

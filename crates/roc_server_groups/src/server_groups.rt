@@ -11,7 +11,7 @@ ghost use Rattle.roc_step.specs.State.{find_group};
 ghost use Rattle.roc_step.specs.declared.started.StartedGroup.{StartedGroup as Group};
 ghost use Rattle.roc_server_index.specs.GroupRefs.{HaveSameRefs};
 ghost use Rattle.roc_server_groups.specs.Groups.{is_same_group};
-ghost use Rattle.roc_server_groups.specs.GroupsNow.{groups_behind, others, AreDecidedBehind, AreOnce, AreUndecided, IsUntried, RunsDecided};
+ghost use Rattle.roc_server_groups.specs.GroupsNow.{groups_behind, groups_without, AreDecidedBehind, AreOnce, AreUndecided, IsUntried, RunsDecided};
 ghost use Rattle.roc_server_groups.specs.Indexed.{group_ref_of, AreGroupRefsOf, IsIndexOf};
 ghost use Rattle.roc_server_groups.specs.Inner.Changes.{IsAddedAt};
 ghost use Rattle.roc_server_groups.specs.Inner.Tried.{CanEnter, HasRoomToEnter};
@@ -262,7 +262,7 @@ fn keep_tried(
     requires refs { AreGroupRefsOf started.old.groups index.old }
     requires enters { (e : Group) → Has e (option_to_list starting) → CanEnter e started.old.groups started.old.spare index.old }
     requires rising { IsStrictlySortedBy txn_cmp over.now }
-    ensures groups { started.new.groups ≡ others over.now (started.old.groups ++ option_to_list starting) }
+    ensures groups { started.new.groups ≡ groups_without over.now (started.old.groups ++ option_to_list starting) }
     ensures index { (before after : List Id) → IsIndexOf index.old before started.old.groups → AreDecidedBehind before newly.now over.now after
         → AreUndecided before (option_to_list starting) → IsIndexOf index.new after started.new.groups }
 {
@@ -299,7 +299,7 @@ fn enter(started: &mut StartedGroups, index: &mut Index, group: StartedGroup)
 // Forgets the groups of these transactions, which rise, where there are any.
 fn forget_over(started: &mut StartedGroups, over: &[TxnId])
     requires { IsStrictlySortedBy txn_cmp over.now }
-    ensures { started.new.groups ≡ others over.now started.old.groups }
+    ensures { started.new.groups ≡ groups_without over.now started.old.groups }
 {
     if over.is_empty() {
         return;

@@ -5,7 +5,7 @@ ghost use Rattle.std.specs.List.Sorted.{IsStrictlySortedBy};
 ghost use Rattle.roc_base.specs.TxnId.{is_txn, txn_cmp};
 ghost use Rattle.roc_sequence.specs.Places.{is_listed};
 ghost use Rattle.roc_step.specs.declared.started.StartedGroup.{StartedGroup as Group};
-ghost use Rattle.roc_server_groups.specs.GroupsNow.{others};
+ghost use Rattle.roc_server_groups.specs.GroupsNow.{groups_without};
 ghost use Rattle.roc_server_groups.specs.Inner.Keyed.{HaveNumbersBelow, AreFirsts, AreKeyed, IsOnceHere, group_key_of};
 ghost use Rattle.roc_step.specs.State.{find_group, is_group, is_here};
 
@@ -169,7 +169,7 @@ fn keep_others(groups: &mut IndexMap<GroupKey, StartedGroup>, ids: &[TxnId])
 
 // The numbers of these transactions go.
 fn keep_other_firsts(firsts: &mut HashMap<TxnId, usize>, ids: &[TxnId])
-    ensures { (es : List Group) → AreFirsts firsts.old.entries es → AreFirsts firsts.new.entries (others ids.now es) }
+    ensures { (es : List Group) → AreFirsts firsts.old.entries es → AreFirsts firsts.new.entries (groups_without ids.now es) }
 {
     for id in ids {
         firsts.remove(id);

@@ -4,7 +4,7 @@ use Rattle.roc_step.specs.declared.started.StartedGroup.{StartedGroup}
 use Rattle.roc_step.specs.Below.{is_ended, raised}
 use Rattle.roc_step.specs.State.{ServerState}
 use Rattle.roc_step.proofs.Raised.{ended_still}
-use Rattle.roc_server_groups.specs.GroupsNow.{others}
+use Rattle.roc_server_groups.specs.GroupsNow.{groups_without}
 use Rattle.roc_server_lists.specs.declared.parts.ListParts.{ListParts}
 use Rattle.roc_server_lists.specs.declared.trial.Heard.{Heard}
 use Rattle.roc_server_lists.specs.declared.trial.Trial.TheVariants.{Marks}
@@ -30,5 +30,5 @@ module _ (k : ListParts) (coord mark : ℕ) (h : Heard) (marks : h.marks ≡ rai
   pub marks_tried : AreConsistent k → AreMarksTried k h
   marks_tried sound = record { sound = sound; risen = λ t e. ap (λ below. is_ended below t) marks ∙ ended_still k.marks coord mark t e; over = over }
 
-  pub heard_left : (started : List StartedGroup) → IsNoneLeft started (kept_in k).lists → IsNoneLeft (others h.over.items started) (after k (Marks h)).lists
+  pub heard_left : (started : List StartedGroup) → IsNoneLeft started (kept_in k).lists → IsNoneLeft (groups_without h.over.items started) (after k (Marks h)).lists
   heard_left started none = left_forgetting started (record (kept_in k) { below = h.marks }) h.over.items over none

@@ -9,7 +9,7 @@ use Rattle.roc_step.specs.Waits.{Awaited}
 use Rattle.roc_step.specs.declared.started.StartedGroup.{StartedGroup}
 use Rattle.roc_step.specs.declared.waits.Asker.{Asker}
 use Rattle.roc_step.specs.declared.waits.OpenFetch.{OpenFetch}
-use Rattle.roc_server_groups.specs.GroupsNow.{others}
+use Rattle.roc_server_groups.specs.GroupsNow.{groups_without}
 use Rattle.roc_server_groups.proofs.IndexSteps.{filter_all}
 use Rattle.roc_server_lists.specs.declared.parts.ListParts.{ListParts}
 use Rattle.roc_server_lists.specs.declared.trial.Trial.{Trial}
@@ -82,6 +82,6 @@ module _ (k : ListParts) (waits : Awaited) (waiting : waits.waiting ≡ k.waits.
   reserved_sound sound = alike_sound k reserved alike sound
 
 -- where nothing is forgotten, nothing more is missing
-pub asking_left : (started : List StartedGroup) (asker : Asker) (k : KeptLists) → IsNoneLeft started k.lists → IsNoneLeft (others [] started) (with_one_asking asker k).lists
+pub asking_left : (started : List StartedGroup) (asker : Asker) (k : KeptLists) → IsNoneLeft started k.lists → IsNoneLeft (groups_without [] started) (with_one_asking asker k).lists
 asking_left started asker k none =
     subst (λ es. IsNoneLeft es (with_one_asking asker k).lists) (sym (filter_all (λ (e : StartedGroup). not (is_listed is_txn [] e.id)) started (λ e h. refl))) none

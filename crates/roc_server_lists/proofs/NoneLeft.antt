@@ -18,7 +18,7 @@ use Rattle.roc_step.specs.Links.{all_entries}
 use Rattle.roc_step.specs.State.{Lists}
 use Rattle.roc_step.proofs.ForgottenLinks.{known_left, left_known}
 use Rattle.roc_step.proofs.WithoutLinks.{entries_left}
-use Rattle.roc_server_groups.specs.GroupsNow.{others}
+use Rattle.roc_server_groups.specs.GroupsNow.{groups_without}
 use Rattle.roc_server_groups.proofs.IndexSteps.{filter_all}
 use Rattle.roc_server_lists.specs.ListsNow.{is_missing_at, IsNoneLeft, KeptLists}
 use Rattle.roc_server_taken.specs.Components.{AreOver}
@@ -27,8 +27,8 @@ use Rattle.roc_server_lists.proofs.SomeLeft.{any_some}
 
 -- what is forgotten is named no more, and about all others each of the three tests says the same
 pub left_forgetting : (started : List StartedGroup) (k : KeptLists) (ids : List TxnId) → AreOver k.below k.lists.taken ids → IsNoneLeft started k.lists
-    → IsNoneLeft (others ids started) (lists_forgetting k).lists
-left_forgetting started k ids are none = has_all (λ d. is_missing_at (others ids started) after.links after.waiting.asked d ≡ false) (all_entries after.links) one
+    → IsNoneLeft (groups_without ids started) (lists_forgetting k).lists
+left_forgetting started k ids are none = has_all (λ d. is_missing_at (groups_without ids started) after.links after.waiting.asked d ≡ false) (all_entries after.links) one
   where
     gone : List TxnId
     gone = over k.below k.lists.taken
@@ -54,7 +54,7 @@ left_forgetting started k ids are none = has_all (λ d. is_missing_at (others id
         (λ e. (known_left forgotten k.lists.links t e).0)
         (λ e. left_known forgotten k.lists.links t e n)
 
-    one : (d : Dependency) → Has d (all_entries after.links) → is_missing_at (others ids started) after.links after.waiting.asked d ≡ false
+    one : (d : Dependency) → Has d (all_entries after.links) → is_missing_at (groups_without ids started) after.links after.waiting.asked d ≡ false
     one d h =
         let p = from_has_filter (λ (x : Dependency). not (forgotten x.from)) d (all_entries lists) (subst (Has d) (entries_left forgotten lists) h) in
         let l = from_has_flat_map (λ (x : KnownList). x.edges) d lists p.0 in
@@ -65,5 +65,5 @@ left_forgetting started k ids are none = has_all (λ d. is_missing_at (others id
         (λ i. not (same_known d.from n i) && (not (here i) && not (asked i))) ∙ all_has (λ d. is_missing_at started k.lists.links k.lists.waiting.asked d ≡ false) d (all_entries k.lists.links) none named
 
 -- and where nothing is forgotten, all is as it was
-pub left_same : (started : List StartedGroup) (l : Lists) → IsNoneLeft started l → IsNoneLeft (others [] started) l
+pub left_same : (started : List StartedGroup) (l : Lists) → IsNoneLeft started l → IsNoneLeft (groups_without [] started) l
 left_same started l none = subst (λ es. IsNoneLeft es l) (sym (filter_all (λ (e : StartedGroup). not (is_listed is_txn [] e.id)) started (λ e h. refl))) none

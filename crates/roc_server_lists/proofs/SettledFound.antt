@@ -18,7 +18,7 @@ use Rattle.roc_step.specs.New.{AreNewTaken}
 use Rattle.roc_step.specs.State.{is_here, ServerState}
 use Rattle.roc_step.specs.Waits.{was_asked_for, without_asked, Waiting}
 use Rattle.roc_step.proofs.WithoutLinks.{entries_left}
-use Rattle.roc_server_groups.specs.GroupsNow.{others}
+use Rattle.roc_server_groups.specs.GroupsNow.{groups_without}
 use Rattle.roc_server_table.specs.Kept.{TableLists}
 use Rattle.roc_server_lists.specs.declared.parts.ListParts.{ListParts}
 use Rattle.roc_server_lists.specs.declared.trial.Settling.{Settling}
@@ -111,7 +111,7 @@ module _ (k : ListParts) (id : TxnId) (mark : ℕ) (x : Settling) (f : IsSettlin
             (λ i. not (known i) && (not (is_here d.from started) && not (asked i)))
             ∙ all_has (λ d. is_missing_at started k.table.links k.waits.waiting.asked d ≡ false) d (all_entries k.table.links) none e.0
 
-    pub settled_left : IsNoneLeft (others x.over.items started) (after k (Settled x)).lists
+    pub settled_left : IsNoneLeft (groups_without x.over.items started) (after k (Settled x)).lists
     settled_left = left_forgetting started (with_settled k x) x.over.items f.over none_behind
 
 -- it comes of what was kept before there was room for it, too

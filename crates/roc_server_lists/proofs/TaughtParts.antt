@@ -20,7 +20,7 @@ use Rattle.roc_step.specs.Links.{all_entries, least_naming, without_links, AreLi
 use Rattle.roc_step.specs.New.{AreNewTaken}
 use Rattle.roc_step.specs.State.{is_here, ServerState}
 use Rattle.roc_step.proofs.SameIds.{ids_without}
-use Rattle.roc_server_groups.specs.GroupsNow.{others}
+use Rattle.roc_server_groups.specs.GroupsNow.{groups_without}
 use Rattle.roc_server_table.specs.Kept.{TableLists}
 use Rattle.roc_server_table.proofs.Unlearnt.{unlearnt as taken_out}
 use Rattle.roc_server_lists.specs.declared.teaching.Named.{Named}
@@ -175,9 +175,9 @@ module _ (shard : Shard) (started : List StartedGroup) (old mid : ListParts) (ne
           subst (λ s. IsTaught s old.table.decided news (tried_of new (Lists x))) same (at_teaches s)
 
       -- nothing is left behind it
-      pub taught_left : IsNoneLeft (others x.over.items started) (after new (Lists x)).lists
+      pub taught_left : IsNoneLeft (groups_without x.over.items started) (after new (Lists x)).lists
       taught_left =
-          subst (λ k. IsNoneLeft (others x.over.items started) (lists_forgetting k).lists) (sym lists_are)
+          subst (λ k. IsNoneLeft (groups_without x.over.items started) (lists_forgetting k).lists) (sym lists_are)
           (left_forgetting started then x.over.items over_then (none_after started old.waits.waiting.asked known links))
 
       -- ---- it can be kept, or taken back

@@ -19,7 +19,7 @@ use Rattle.roc_step.specs.New.{AreDecided, AreNewTaken}
 use Rattle.roc_step.specs.State.{hearing, is_here, Lists, ServerState}
 use Rattle.roc_step.specs.Waits.{none_waiting, was_asked_for, with_asker}
 use Rattle.roc_server_taken.specs.Components.{AreOver}
-use Rattle.roc_server_groups.specs.GroupsNow.{others, AreDecidedBehind}
+use Rattle.roc_server_groups.specs.GroupsNow.{groups_without, AreDecidedBehind}
 
 -- ---- what is kept, and what is tried
 
@@ -130,4 +130,4 @@ IsNoneLeft started l = AllByRecursion (λ d. is_missing_at started l.links l.wai
 
 -- behind the step nothing more is left, whichever groups started
 abbrev pub LeavesNone : (old new : ListsNow) → Type 0
-LeavesNone old new = (started : List StartedGroup) → IsNoneLeft started old.kept.lists → IsNoneLeft (others (over_of new.tried) started) (lists_behind new).lists
+LeavesNone old new = (started : List StartedGroup) → IsNoneLeft started old.kept.lists → IsNoneLeft (groups_without (over_of new.tried) started) (lists_behind new).lists

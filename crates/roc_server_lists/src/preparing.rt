@@ -3,7 +3,7 @@ ghost use Rattle.std.specs.Prelude.{◌≡◌, List, IfOk, OnErr};
 ghost use Rattle.roc_step.specs.Learning.{AreLearnable};
 ghost use Rattle.roc_step.specs.State.{ServerState};
 ghost use Rattle.roc_step.specs.declared.started.StartedGroup.{StartedGroup as Group};
-ghost use Rattle.roc_server_groups.specs.GroupsNow.{others};
+ghost use Rattle.roc_server_groups.specs.GroupsNow.{groups_without};
 ghost use Rattle.roc_server_lists.specs.declared.trial.Trial.TheVariants.{Lists as ListsCome, Marks as MarksRise, Settled as SettledComes};
 ghost use Rattle.roc_server_lists.specs.ListsNow.{lists_of, IsHeard, IsNoneLeft, IsSettledBy, IsTaught};
 ghost use Rattle.roc_server_lists.specs.Inner.Parts.{kept_in, AreConsistent};
@@ -35,7 +35,7 @@ pub(crate) fn prepare_lists(
         → IsTaught s parts.old.table.decided news.items (tried_of parts.new (ListsCome l))) }
     ensures tried { IfOk result (AreListsTried parts.new) }
     ensures from { IfOk result (λ l. kept_in (unlearnt parts.new l) ≡ kept_in parts.old) }
-    ensures left { IfOk result (λ l. IsNoneLeft (others l.over.items started.now.groups) (after parts.new (ListsCome l)).lists) }
+    ensures left { IfOk result (λ l. IsNoneLeft (groups_without l.over.items started.now.groups) (after parts.new (ListsCome l)).lists) }
     ensures decided { parts.new.table.decided ≡ parts.old.table.decided }
     ensures same { OnErr result (kept_in parts.new ≡ kept_in parts.old) }
     ensures err { OnErr result (AreConsistent parts.new) }
@@ -60,7 +60,8 @@ pub(crate) fn prepare_settled(
     requires sound { AreConsistent parts.old }
     ensures settled { IfOk result (λ f. (s : ServerState) → lists_of s ≡ kept_in parts.old → IsSettledBy s parts.old.table.decided id mark (tried_of parts.new (SettledComes f))) }
     ensures tried { IfOk result (IsSettledTried parts.new) }
-    ensures left { IfOk result (λ f. (started : List Group) → IsNoneLeft started (kept_in parts.old).lists → IsNoneLeft (others f.over.items started) (after parts.new (SettledComes f)).lists) }
+    ensures left { IfOk result (λ f. (started : List Group) → IsNoneLeft started (kept_in parts.old).lists
+        → IsNoneLeft (groups_without f.over.items started) (after parts.new (SettledComes f)).lists) }
     ensures same { kept_in parts.new ≡ kept_in parts.old }
     ensures decided { parts.new.table.decided ≡ parts.old.table.decided }
     ensures sound { AreConsistent parts.new }
@@ -80,7 +81,7 @@ pub(crate) fn prepare_heard(
     requires sound { AreConsistent parts.now }
     ensures heard { IfOk result (λ h. (s : ServerState) → lists_of s ≡ kept_in parts.now → IsHeard s coord mark (tried_of parts.now (MarksRise h))) }
     ensures tried { IfOk result (AreMarksTried parts.now) }
-    ensures left { IfOk result (λ h. (started : List Group) → IsNoneLeft started (kept_in parts.now).lists → IsNoneLeft (others h.over.items started) (after parts.now (MarksRise h)).lists) }
+    ensures left { IfOk result (λ h. (started : List Group) → IsNoneLeft started (kept_in parts.now).lists → IsNoneLeft (groups_without h.over.items started) (after parts.now (MarksRise h)).lists) }
 {
     let marks = parts.marks.raised(coord, mark);
     let over = over_among(alloc, &marks, &parts.taken, &[])?;

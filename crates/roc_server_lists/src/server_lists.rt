@@ -5,7 +5,7 @@ ghost use Rattle.roc_step.specs.Below.{is_ended, mark_of};
 ghost use Rattle.roc_step.specs.Learning.{AreLearnable};
 ghost use Rattle.roc_step.specs.State.{ServerState};
 ghost use Rattle.roc_step.specs.Waits.{was_asked_for};
-ghost use Rattle.roc_server_groups.specs.GroupsNow.{others};
+ghost use Rattle.roc_server_groups.specs.GroupsNow.{groups_without};
 ghost use Rattle.roc_server_lists.specs.ListsNow.{asks_of, lists_behind, lists_of, newly_of, no_lists, none_kept, over_of, with_one_asking};
 ghost use Rattle.roc_server_lists.specs.ListsNow.{AreSound, IsHeard, IsNoneLeft, IsSettledBy, IsTaught, IsTried, LeavesNone};
 
@@ -153,7 +153,7 @@ impl ServerLists {
         requires left { IsNoneLeft started.now.groups self.old.kept.lists }
         ensures ok { OnOk result ((s : ServerState) → s.shard ≡ shard → s.started ≡ started.now.groups → lists_of s ≡ self.old.kept
             → IsTried (IsTaught s self.old.decided news.items) self.new.tried) }
-        ensures left { OnOk result (IsNoneLeft (others (over_of self.new.tried) started.now.groups) (lists_behind self.new).lists) }
+        ensures left { OnOk result (IsNoneLeft (groups_without (over_of self.new.tried) started.now.groups) (lists_behind self.new).lists) }
         ensures kept { self.new.kept ≡ self.old.kept }
         ensures decided { self.new.decided ≡ self.old.decided }
         ensures sound { AreSound self.new }

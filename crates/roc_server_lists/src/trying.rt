@@ -2,7 +2,7 @@
 ghost use Rattle.std.specs.Prelude.{◌≡◌, [], None, Some, OnOk};
 ghost use Rattle.roc_step.specs.Learning.{AreLearnable};
 ghost use Rattle.roc_step.specs.State.{ServerState};
-ghost use Rattle.roc_server_groups.specs.GroupsNow.{others};
+ghost use Rattle.roc_server_groups.specs.GroupsNow.{groups_without};
 ghost use Rattle.roc_server_lists.specs.ListsNow.{lists_behind, lists_of, no_lists, over_of, with_one_asking, IsHeard, IsNoneLeft, IsSettledBy, IsTaught, IsTried, LeavesNone};
 ghost use Rattle.roc_server_lists.specs.Inner.Trials.{lists_now, AreHeld};
 
@@ -71,7 +71,7 @@ pub(crate) fn teach(
     requires left { IsNoneLeft started.now.groups (lists_now parts.old trial.old).kept.lists }
     ensures ok { OnOk result ((s : ServerState) → s.shard ≡ shard → s.started ≡ started.now.groups → lists_of s ≡ (lists_now parts.old trial.old).kept
         → IsTried (IsTaught s parts.old.table.decided news.items) (lists_now parts.new trial.new).tried) }
-    ensures left { OnOk result (IsNoneLeft (others (over_of (lists_now parts.new trial.new).tried) started.now.groups) (lists_behind (lists_now parts.new trial.new)).lists) }
+    ensures left { OnOk result (IsNoneLeft (groups_without (over_of (lists_now parts.new trial.new).tried) started.now.groups) (lists_behind (lists_now parts.new trial.new)).lists) }
     ensures kept { (lists_now parts.new trial.new).kept ≡ (lists_now parts.old trial.old).kept }
     ensures decided { parts.new.table.decided ≡ parts.old.table.decided }
     ensures held { AreHeld parts.new trial.new }

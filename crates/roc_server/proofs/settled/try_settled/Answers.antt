@@ -1,6 +1,6 @@
 use Rattle.std.proofs.Common.{refl, sym, subst, ◌∙◌}
 use Rattle.roc_step.specs.Fits.{AreGroupsOf}
-use Rattle.roc_server_groups.specs.GroupsNow.{others, RunsDecided}
+use Rattle.roc_server_groups.specs.GroupsNow.{groups_without, RunsDecided}
 use Rattle.roc_server_groups.proofs.SameGroups.{fits_same}
 use Rattle.roc_server_lists.specs.ListsNow.{lists_behind, newly_of, over_of, IsNoneLeft, IsSettledBy, IsTried, ListsNow}
 use Rattle.roc_server.specs.Inner.Parts.{state_of}
@@ -47,5 +47,5 @@ pub returns-clause-can : goal.returns-clause-can
 returns-clause-can c =
     let new = c.run_newly.new.parts in
     can_release new c.in_ok-run_newly.ensures.once.same (c.in_ok-run_newly.ensures.starting ∙ c.requires.idle.groups.starting)
-    (subst (λ (l : ListsNow). IsNoneLeft (others (over_of l.tried) new.groups.kept) (lists_behind l).lists) (sym c.in_ok-run_newly.ensures.lists)
-    (subst (λ es. IsNoneLeft (others (over_of c.settle.new.self.tried) es) (lists_behind c.settle.new.self).lists) (sym c.in_ok-run_newly.ensures.kept) (c.in_ok-settle.ensures.left c.args.parts.now.groups.kept c.requires.sound.left)))
+    (subst (λ (l : ListsNow). IsNoneLeft (groups_without (over_of l.tried) new.groups.kept) (lists_behind l).lists) (sym c.in_ok-run_newly.ensures.lists)
+    (subst (λ es. IsNoneLeft (groups_without (over_of c.settle.new.self.tried) es) (lists_behind c.settle.new.self).lists) (sym c.in_ok-run_newly.ensures.kept) (c.in_ok-settle.ensures.left c.args.parts.now.groups.kept c.requires.sound.left)))

@@ -4,7 +4,7 @@ use Rattle.roc_msg.specs.Outbox.{HasSent}
 use Rattle.roc_step.specs.Asking.{knowns_for}
 use Rattle.roc_step.specs.Waits.{Waiting}
 use Rattle.roc_step.specs.Fits.{AreGroupsOf}
-use Rattle.roc_server_groups.specs.GroupsNow.{others, RunsDecided}
+use Rattle.roc_server_groups.specs.GroupsNow.{groups_without, RunsDecided}
 use Rattle.roc_server_lists.specs.ListsNow.{lists_behind, newly_of, over_of, IsNoneLeft, IsTaught, IsTried, ListsNow}
 use Rattle.roc_server.specs.Inner.Parts.{state_of}
 use Rattle.roc_server_groups.proofs.SameGroups.{fits_same}
@@ -41,5 +41,5 @@ returns-clause-can c =
     let new = c.run_newly.new.parts in
     let kept = c.started.ensures.groups ∙ c.requires.idle.groups.ran ∙ sym c.in_ok-run_newly.ensures.kept in
     can_release new c.in_ok-run_newly.ensures.once.same (c.in_ok-run_newly.ensures.starting ∙ c.requires.idle.groups.starting)
-    (subst (λ (l : ListsNow). IsNoneLeft (others (over_of l.tried) new.groups.kept) (lists_behind l).lists) (sym c.in_ok-run_newly.ensures.lists)
-    (subst (λ es. IsNoneLeft (others (over_of c.teach.new.self.tried) es) (lists_behind c.teach.new.self).lists) kept c.in_ok-teach.ensures.left))
+    (subst (λ (l : ListsNow). IsNoneLeft (groups_without (over_of l.tried) new.groups.kept) (lists_behind l).lists) (sym c.in_ok-run_newly.ensures.lists)
+    (subst (λ es. IsNoneLeft (groups_without (over_of c.teach.new.self.tried) es) (lists_behind c.teach.new.self).lists) kept c.in_ok-teach.ensures.left))

@@ -2,7 +2,7 @@ use Rattle.std.proofs.Common.{◌≡◌, ◌∙◌, ◌++◌, [], Option, sym, a
 use Rattle.std.specs.Option.{option_to_list}
 use Rattle.roc_sequence.specs.Lists.{Has}
 use Rattle.roc_step.specs.declared.started.StartedGroup.{StartedGroup}
-use Rattle.roc_server_groups.specs.GroupsNow.{groups_behind, others, GroupsNow}
+use Rattle.roc_server_groups.specs.GroupsNow.{groups_behind, groups_without, GroupsNow}
 use Rattle.roc_server_groups.specs.Indexed.{AreGroupRefsOf, IsIndexOf}
 use Rattle.roc_server_groups.specs.Inner.Tried.{AreTried}
 use Rattle.roc_server_groups.specs.Inner.Restored.{restored}
@@ -24,10 +24,10 @@ keep_tried-requires-clause-enters c e h =
     (c.self.invariant.enters e (subst (λ (o : Option StartedGroup). Has e (option_to_list o)) c.replace-starting.ensures.value h))
 
 -- what is kept behind the step
-behind : (c : After-clear) → restored c.clear.new.self.items c.keep_tried.new.started.groups ≡ others c.args.over.now (c.self.inside.started.groups ++ option_to_list c.self.inside.starting)
+behind : (c : After-clear) → restored c.clear.new.self.items c.keep_tried.new.started.groups ≡ groups_without c.args.over.now (c.self.inside.started.groups ++ option_to_list c.self.inside.starting)
 behind c =
     restored-none c.clear.new.self.items c.keep_tried.new.started.groups c.clear.ensures.items ∙ c.keep_tried.ensures.groups
-    ∙ ap (λ (o : Option StartedGroup). others c.args.over.now (c.self.inside.started.groups ++ option_to_list o)) c.replace-starting.ensures.value
+    ∙ ap (λ (o : Option StartedGroup). groups_without c.args.over.now (c.self.inside.started.groups ++ option_to_list o)) c.replace-starting.ensures.value
 
 none_starts : (c : After-clear) → option_to_list c.replace-starting.new.dest ≡ []
 none_starts c = ap option_to_list c.replace-starting.ensures.after
@@ -36,7 +36,7 @@ tried : (c : After-clear) → AreTried (restored c.clear.new.self.items c.keep_t
 tried c =
     let was = c.self.inside in
     let kept = restored was.earlier.items was.started.groups in
-    tried_none (others c.args.over.now (was.started.groups ++ option_to_list was.starting)) (restored c.clear.new.self.items c.keep_tried.new.started.groups) (option_to_list c.replace-starting.new.dest)
+    tried_none (groups_without c.args.over.now (was.started.groups ++ option_to_list was.starting)) (restored c.clear.new.self.items c.keep_tried.new.started.groups) (option_to_list c.replace-starting.new.dest)
     c.keep_tried.new.started.spare c.keep_tried.new.index (behind c) (none_starts c)
     (once_behind was.started.groups was.starting c.args.over.now (once_ran was.earlier.items was.started.groups c.self.invariant.once)
     (λ e h. absent_same kept was.started.groups e (restored_same was.earlier.items was.started.groups) (c.self.invariant.enters e h).absent))

@@ -1,7 +1,7 @@
 use Rattle.std.proofs.Common.{◌≡◌, List, OnOk, subst}
 use Rattle.roc_step.specs.State.{ServerState}
 use Rattle.roc_step.specs.declared.started.StartedGroup.{StartedGroup}
-use Rattle.roc_server_groups.specs.GroupsNow.{others}
+use Rattle.roc_server_groups.specs.GroupsNow.{groups_without}
 use Rattle.roc_server_lists.specs.ListsNow.{lists_behind, lists_of, over_of, IsHeard, IsNoneLeft, IsTried, ListsNow}
 use Rattle.roc_server_lists.specs.Inner.Trials.{lists_now}
 use Rattle.roc_server_lists.proofs.Sound.{sound_of}
@@ -14,7 +14,7 @@ returns-clause-ok c =
 pub returns-clause-left : goal.returns-clause-left
 returns-clause-left c =
     let now : ListsNow = lists_now c.hear.new.parts c.hear.new.trial in
-    subst (λ (v : ListsNow). OnOk c.hear.result ((started : List StartedGroup) → IsNoneLeft started v.kept.lists → IsNoneLeft (others (over_of now.tried) started) (lists_behind now).lists))
+    subst (λ (v : ListsNow). OnOk c.hear.result ((started : List StartedGroup) → IsNoneLeft started v.kept.lists → IsNoneLeft (groups_without (over_of now.tried) started) (lists_behind now).lists))
     c.self.view_is c.hear.ensures.left
 
 pub returns-clause-sound : goal.returns-clause-sound
