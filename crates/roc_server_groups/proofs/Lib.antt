@@ -1,6 +1,6 @@
 mod Accesses
 pub mod CellByCell
-pub mod EachCell
+pub mod Covered
 mod FirstGroups
 mod GroupRuns
 pub mod IndexSteps

@@ -16,7 +16,6 @@
 
 mod begun;
 mod commitoks;
-mod each_cell;
 mod group_key;
 mod groups;
 mod indexed;
@@ -26,6 +25,7 @@ mod ran;
 mod runs;
 mod server_groups;
 mod started_groups;
+mod uncovered;
 
 pub use begun::{Begun, begin_group, is_immediate};
 pub use commitoks::{send_commitok, send_commitoks};

@@ -11,9 +11,9 @@ ghost use Rattle.roc_server_groups.specs.Inner.Looks.{IsGroupRefWithin, is_looke
 ghost use Rattle.roc_step.specs.Start.{conflicts_before, edge_to, users};
 
 use crate::begun::is_immediate;
-use crate::each_cell::each_cell;
 use crate::lent_groups::LentGroups;
 use crate::started_groups::StartedGroups;
+use crate::uncovered::uncovered;
 use roc_base::{Edge, Edges, NoMemory, Shard, Steps, TxnId};
 use roc_group::{Access, conflict};
 use roc_plan::Plan;
@@ -51,7 +51,7 @@ pub fn entries<L: Ledger>(
     ensures steps { (decided : List Id) → IsIndexOf index.now decided started.now.groups
         → steps.new ≤ steps.old + length (users plan.now decided starting.immediate cells.now started.now.groups) }
 {
-    let uses = each_cell(alloc, cells)?;
+    let uses = uncovered(alloc, cells)?;
     let lent = LentGroups::new(started, index);
     lent_entries(alloc, plan, &lent, starting, &uses, steps)
 }

@@ -5,8 +5,8 @@ use Rattle.roc_server_index.specs.GroupRefs.{CellRefs}
 use Rattle.roc_step.specs.Start.{conflicts_before, edge_to, users}
 use Rattle.roc_server_groups.specs.Entered.{Entered}
 use Rattle.roc_server_groups.specs.Indexed.{IsIndexOf}
-use Rattle.roc_server_groups.specs.Inner.EachCell.{AreSameUses}
-use Rattle.roc_server_groups.proofs.EachCell.{same_before, fewer_users}
+use Rattle.roc_server_groups.specs.Inner.Covered.{AreSameUses}
+use Rattle.roc_server_groups.proofs.Covered.{same_before, fewer_users}
 use Rattle.roc_server_groups.proofs.looks.entries.Goals as goal
 
 pub returns-clause-entries : goal.returns-clause-entries

@@ -17,7 +17,7 @@ use Rattle.roc_sequence.specs.Places.{is_listed}
 use Rattle.roc_plan.specs.Groups.{Plan, is_immediate_of}
 use Rattle.roc_step.specs.declared.started.StartedGroup.{StartedGroup}
 use Rattle.roc_step.specs.Start.{conflicts_before, is_user, users}
-use Rattle.roc_server_groups.specs.Inner.EachCell.{covers, with_use, AreSameUses}
+use Rattle.roc_server_groups.specs.Inner.Covered.{covers, with_use, AreSameUses}
 
 abbrev touches : Access → Access → Bool
 touches x a = is_cell x.cell a.cell && (x.writes || a.writes)

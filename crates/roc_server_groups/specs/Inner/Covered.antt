@@ -1,4 +1,4 @@
--- The cells of uses, each once
+-- Uses, less those that a later one covers
 use Rattle.std.specs.Prelude.{◌≡◌, ◌≤◌, ◌&&◌, ◌||◌, not, Bool, List, [], ◌∷◌, ◌++◌, length, if◌then◌else◌}
 use Rattle.std.specs.List.{flat_map, list_any}
 use Rattle.roc_rows.specs.Cells.{is_cell}

@@ -1,8 +1,8 @@
 use Rattle.std.proofs.Common.{◌≡◌, ℕ, ◌+◌, ◌-◌, ◌<◌, ◌∷◌, length, drop, sym, subst, ◌∙◌, arith}
 use Rattle.std.proofs.lemmas.List.{drop_more}
-use Rattle.roc_server_groups.specs.Inner.EachCell.{with_use, AreSameUses}
-use Rattle.roc_server_groups.proofs.EachCell.{one_used}
-use Rattle.roc_server_groups.proofs.each_cell.each_cell.Goals as goal
+use Rattle.roc_server_groups.specs.Inner.Covered.{with_use, AreSameUses}
+use Rattle.roc_server_groups.proofs.Covered.{one_used}
+use Rattle.roc_server_groups.proofs.uncovered.uncovered.Goals as goal
 
 pub loop-at-preserved : goal.loop-at-preserved
 loop-at-preserved c =

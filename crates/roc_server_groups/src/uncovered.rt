@@ -1,14 +1,14 @@
-//! The cells of uses, each once.
+//! Uses, less those that a later one covers.
 ghost use Rattle.std.specs.Prelude.{◌≡◌, IfOk, OnOk};
 ghost use Rattle.std.specs.List.{list_any};
-ghost use Rattle.roc_server_groups.specs.Inner.EachCell.{covers, with_use, AreSameUses};
+ghost use Rattle.roc_server_groups.specs.Inner.Covered.{covers, with_use, AreSameUses};
 
 use roc_base::NoMemory;
 use roc_group::Access;
 use std::alloc::Global;
 
 // What is left of these uses where one is passed over for another of its cell that says as much: a group mostly reads a cell and writes it then.
-pub(crate) fn each_cell(alloc: Global, cells: &[Access]) -> Result<Vec<Access>, NoMemory>
+pub(crate) fn uncovered(alloc: Global, cells: &[Access]) -> Result<Vec<Access>, NoMemory>
     ensures { IfOk result (λ uses. AreSameUses cells.now uses.items) }
 {
     let mut uses = Vec::new(alloc);
