@@ -16,7 +16,7 @@ use Rattle.roc_server_reads.specs.declared.views.StayingReads.{StayingReads}
 use Rattle.roc_server_reads.specs.declared.views.Views.{Views}
 use Rattle.roc_server.specs.Ahead.{needs_room, HasAllMade, HasRoom, IsMadeFor, ServingFits}
 use Rattle.roc_step.specs.Fits.{AreGroupsOf, AreReadsOf}
-use Rattle.roc_server.specs.Inner.Answering.{read_step, PlansReads}
+use Rattle.roc_server.specs.Inner.Answering.{read_step, FindsReads}
 use Rattle.roc_server.specs.Inner.Held.{made_ahead, made_of, serving, IsServed}
 use Rattle.roc_server_reads.specs.Views.{reads_then, viewing_of, viewing_then}
 use Rattle.roc_step.specs.Reads.{is_taken, reads_behind, with_accesses, AnswersReads, ReadStep}
@@ -118,7 +118,7 @@ module _ (plan : Plan) (shard : Shard) (mid : ServerParts) (sound : IsSound mid)
   ran = step.2.ran ∙ ap (λ accesses. accesses ++ accesses_of r.ran) none_ran
 
   -- with what comes of it for reads
-  pub made_for : (x : Views) (o : Outcome) → o ≡ record { answer = answer; sends = sends; stays = o.stays } → viewing_of x ≡ v → PlansReads plan (state_behind shard mid) v msg answer core sends o.stays
+  pub made_for : (x : Views) (o : Outcome) → o ≡ record { answer = answer; sends = sends; stays = o.stays } → viewing_of x ≡ v → FindsReads plan (state_behind shard mid) v msg answer core sends o.stays
       → AreReadsOf plan (viewing_then v answer core.ran o.stays).reads → IsMadeFor plan s v (made_of shard mid x msg o)
   made_for x o is same reads reads_fit =
       let ids = sound.lists.later in

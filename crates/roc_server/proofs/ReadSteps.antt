@@ -13,10 +13,10 @@ use Rattle.roc_step.specs.New.{AreDecided}
 use Rattle.roc_step.specs.Reads.{in_turn, is_free, is_taken, read_call, readok_of, reads_with, with_accesses, ReadStep}
 use Rattle.roc_step.specs.State.{ServerState, Viewing}
 use Rattle.roc_server.specs.declared.parts.ServerParts.{ServerParts}
-use Rattle.roc_server_reads.specs.Answering.{read_step_behind, AreReadsPlanned}
+use Rattle.roc_server_reads.specs.Answering.{read_step_behind, AreReadsFound}
 use Rattle.roc_server_reads.specs.Behind.{is_free_behind, LeftBehind}
 use Rattle.roc_server_reads.specs.declared.views.StayingReads.{StayingReads}
-use Rattle.roc_server.specs.Inner.Answering.{left_behind, read_step, PlansReads}
+use Rattle.roc_server.specs.Inner.Answering.{left_behind, read_step, FindsReads}
 use Rattle.roc_server.specs.Inner.Parts.{state_behind, IsSound}
 use Rattle.roc_server.proofs.HeldUp.{held_behind}
 
@@ -40,11 +40,11 @@ module _ (plan : Plan) (shard : Shard) (k : ServerParts) (sound : IsSound k) whe
       }
       else record { viewing = v; sends = [] }
 
-  pub planned_so : (v : Viewing) (msg : Msg) (answer : Handled) (old new : Collected) (stays : Option StayingReads) (left : LeftBehind) → left ≡ b
-      → AreReadsPlanned plan shard left v msg answer old new stays → PlansReads plan s v msg answer old new stays
-  planned_so v msg answer old new stays left is planned = record {
+  pub found_so : (v : Viewing) (msg : Msg) (answer : Handled) (old new : Collected) (stays : Option StayingReads) (left : LeftBehind) → left ≡ b
+      → AreReadsFound plan shard left v msg answer old new stays → FindsReads plan s v msg answer old new stays
+  found_so v msg answer old new stays left is found = record {
     step = λ decided are.
-        let h : AreReadsPlanned plan shard b v msg answer old new stays = subst (λ l. AreReadsPlanned plan shard l v msg answer old new stays) is planned in
+        let h : AreReadsFound plan shard b v msg answer old new stays = subst (λ l. AreReadsFound plan shard l v msg answer old new stays) is found in
         let same : read_step plan decided v msg answer s old.ran ≡ read_step_behind plan shard b v msg answer old.ran = step_same v msg answer old.ran decided are in
         (ap (λ (r : ReadStep). r.viewing) same ∙ h.viewing, subst (HasSent old new) (sym (ap (λ (r : ReadStep). r.sends) same)) h.sent);
   }

@@ -7,7 +7,7 @@ ghost use Rattle.roc_step.specs.State.{ServerState};
 ghost use Rattle.roc_server_lists.specs.ListsNow.{lists_of};
 ghost use Rattle.roc_server_reads.specs.Answering.{TakenFits};
 ghost use Rattle.roc_server_reads.specs.Views.{reads_then, viewing_of, HasRoomToCount};
-ghost use Rattle.roc_server.specs.Inner.Answering.{PlansReads};
+ghost use Rattle.roc_server.specs.Inner.Answering.{FindsReads};
 ghost use Rattle.roc_server.specs.Inner.Parts.{state_behind, CanRelease, IsSound};
 
 use crate::Handled;
@@ -16,7 +16,7 @@ use roc_base::{NoMemory, Nums, Shard, Steps, TxnId};
 use roc_msg::{Msg, Outbox};
 use roc_plan::Plan;
 use roc_server_lists::ServerLists;
-use roc_server_reads::{Behind, StayingReads, Views, plan_reads, read_refusal};
+use roc_server_reads::{Behind, StayingReads, Views, find_reads, read_refusal};
 use std::alloc::Global;
 use std::marker::Brand;
 use std::sync::ledger::{Blank, Ledger};
@@ -56,7 +56,7 @@ pub(crate) fn answer_reads(
     requires taken { TakenFits plan.now msg.now answer }
     requires sound { IsSound parts.now }
     requires can { CanRelease parts.now }
-    ensures step { IfOk result (λ stays. PlansReads plan.now (state_behind shard parts.now) (viewing_of views.old) msg.now answer sends.old sends.new stays) }
+    ensures step { IfOk result (λ stays. FindsReads plan.now (state_behind shard parts.now) (viewing_of views.old) msg.now answer sends.old sends.new stays) }
     ensures fits { IfOk result (λ stays. AreReadsOf plan.now (reads_then views.old.reads.items stays)) }
     ensures same { viewing_of views.new ≡ viewing_of views.old }
     ensures ran { OnOk result (sends.new.ran ≡ sends.old.ran) }
@@ -85,7 +85,7 @@ fn answer_by_ledger<L: Ledger>(
     requires taken { TakenFits plan.now msg.now answer }
     requires sound { IsSound parts.now }
     requires can { CanRelease parts.now }
-    ensures step { IfOk result (λ stays. PlansReads plan.now (state_behind shard parts.now) (viewing_of views.old) msg.now answer sends.old sends.new stays) }
+    ensures step { IfOk result (λ stays. FindsReads plan.now (state_behind shard parts.now) (viewing_of views.old) msg.now answer sends.old sends.new stays) }
     ensures fits { IfOk result (λ stays. AreReadsOf plan.now (reads_then views.old.reads.items stays)) }
     ensures same { viewing_of views.new ≡ viewing_of views.old }
     ensures ran { OnOk result (sends.new.ran ≡ sends.old.ran) }
@@ -100,7 +100,7 @@ fn answer_by_ledger<L: Ledger>(
         parts.groups.starting(),
     );
     let mut steps = Steps::<L>::new(blank);
-    plan_reads(
+    find_reads(
         alloc, plan, shard, &behind, views, msg, answer, sends, &mut steps,
     )
 }

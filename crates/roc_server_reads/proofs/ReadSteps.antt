@@ -9,7 +9,7 @@ use Rattle.roc_step.specs.declared.handled.Handled.{Handled}
 use Rattle.roc_step.specs.declared.kept_read.KeptRead.{KeptRead}
 use Rattle.roc_step.specs.Reads.{in_turn, is_taken, reads_with, with_accesses, ReadStep}
 use Rattle.roc_step.specs.State.{Viewing}
-use Rattle.roc_server_reads.specs.Answering.{answering_free, readok_over, AreReadsPlanned}
+use Rattle.roc_server_reads.specs.Answering.{answering_free, readok_over, AreReadsFound}
 use Rattle.roc_server_reads.specs.Behind.{is_free_behind, LeftBehind}
 use Rattle.roc_server_reads.specs.declared.views.StayingReads.{StayingReads}
 use Rattle.roc_server_reads.specs.Views.{reads_then}
@@ -29,7 +29,7 @@ module _ (plan : Plan) (shard : Shard) (b : LeftBehind) (v : Viewing) (msg : Msg
   unmoved = record { viewing = v; sends = [] }
 
   -- nothing comes of a message that was ignored
-  pub none_ignored : (out : Collected) → is_taken answer ≡ false → AreReadsPlanned plan shard b v msg answer out out None
+  pub none_ignored : (out : Collected) → is_taken answer ≡ false → AreReadsFound plan shard b v msg answer out out None
   none_ignored out e =
       let whole : ReadStep = answering_free plan shard b (with_accesses v.versions out.ran) (reads_with msg answer v.reads) in
       let kept : Viewing = record { versions = with_accesses v.versions out.ran; reads = v.reads } in
@@ -45,8 +45,8 @@ module _ (plan : Plan) (shard : Shard) (b : LeftBehind) (v : Viewing) (msg : Msg
     counts = with_accesses v.versions old.ran
 
     -- the free ones were answered, and the others stay
-    pub plans_reads : AreReadsPlanned plan shard b v msg answer old new stays
-    plans_reads =
+    pub finds_reads : AreReadsFound plan shard b v msg answer old new stays
+    finds_reads =
         let whole : ReadStep = answering_free plan shard b counts (reads_with msg answer v.reads) in
         let kept : Viewing = record { versions = counts; reads = reads_then v.reads stays } in
         let staying : whole.viewing ≡ kept =
@@ -59,9 +59,9 @@ module _ (plan : Plan) (shard : Shard) (b : LeftBehind) (v : Viewing) (msg : Msg
         }
 
   -- where none is free, all stay as they are
-  pub plans_none : (out : Collected) → reads_with msg answer v.reads ≡ v.reads → filter (is_free_behind plan b) v.reads ≡ [] → is_taken answer ≡ true
-      → AreReadsPlanned plan shard b v msg answer out out None
-  plans_none out all none taken =
-      plans_reads out out None v.reads all (sym (none_free (is_free_behind plan b) v.reads none))
+  pub finds_none : (out : Collected) → reads_with msg answer v.reads ≡ v.reads → filter (is_free_behind plan b) v.reads ≡ [] → is_taken answer ≡ true
+      → AreReadsFound plan shard b v msg answer out out None
+  finds_none out all none taken =
+      finds_reads out out None v.reads all (sym (none_free (is_free_behind plan b) v.reads none))
       (subst (λ qs. HasSent out out (map (readok_over plan shard b.store (with_accesses v.versions out.ran)) (in_turn qs))) (sym none) (sym (append-nil out.messages), refl, refl))
       taken

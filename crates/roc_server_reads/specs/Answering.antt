@@ -51,7 +51,7 @@ abbrev pub read_step_behind : Plan → Shard → LeftBehind → Viewing → Msg 
 read_step_behind plan shard b v msg answer ran =
     if is_taken answer then answering_free plan shard b (with_accesses v.versions ran) (reads_with msg answer v.reads) else record { viewing = v; sends = [] }
 
--- it is planned: these reads stay, and the rest is sent
-pub record AreReadsPlanned (plan : Plan) (shard : Shard) (b : LeftBehind) (v : Viewing) (msg : Msg) (answer : Handled) (old new : Collected) (stays : Option StayingReads) : Type 0 where
+-- it is found: these reads stay, and the rest is sent
+pub record AreReadsFound (plan : Plan) (shard : Shard) (b : LeftBehind) (v : Viewing) (msg : Msg) (answer : Handled) (old new : Collected) (stays : Option StayingReads) : Type 0 where
   pub viewing : (read_step_behind plan shard b v msg answer old.ran).viewing ≡ viewing_then v answer old.ran stays
   pub sent : HasSent old new (read_step_behind plan shard b v msg answer old.ran).sends

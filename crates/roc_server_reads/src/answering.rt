@@ -3,7 +3,7 @@ ghost use Rattle.std.specs.Prelude.{◌≡◌, ◌≤◌, ◌+◌, ◌++◌, ◌
 ghost use Rattle.std.specs.List.{AllByRecursion};
 ghost use Rattle.roc_msg.specs.Outbox.{HasSent};
 ghost use Rattle.roc_step.specs.Fits.{AreReadsOf, IsReadOf};
-ghost use Rattle.roc_server_reads.specs.Answering.{read_in, readok_over, AreReadsPlanned, TakenFits};
+ghost use Rattle.roc_server_reads.specs.Answering.{read_in, readok_over, AreReadsFound, TakenFits};
 ghost use Rattle.roc_server_reads.specs.Behind.{is_free_behind, AreHolders};
 ghost use Rattle.roc_server_reads.specs.Inner.Parts.{one_more};
 ghost use Rattle.roc_server_reads.specs.Looks.{looks_for, looks_for_all, looks_for_new};
@@ -29,7 +29,7 @@ use std::sync::ledger::Ledger;
 /// given, where others stay than are kept. Behind a step that is not ignored, what holds up each read that stays is kept or given with it. It takes the
 /// room to count what ran. No count and no read changes, whether there is memory or not. A step of the count is one look at a group: a read takes one
 /// while the group that is kept with it still holds it up.
-pub fn plan_reads<L: Ledger>(
+pub fn find_reads<L: Ledger>(
     alloc: Global,
     plan: &Plan,
     shard: Shard,
@@ -42,7 +42,7 @@ pub fn plan_reads<L: Ledger>(
 ) -> Result<Option<StayingReads>, NoMemory>
     requires fits { AreReadsOf plan.now views.old.reads.items }
     requires taken { TakenFits plan.now msg.now answer }
-    ensures step { IfOk result (λ stays. AreReadsPlanned plan.now shard behind.now (viewing_of views.old) msg.now answer sends.old sends.new stays) }
+    ensures step { IfOk result (λ stays. AreReadsFound plan.now shard behind.now (viewing_of views.old) msg.now answer sends.old sends.new stays) }
     ensures fits { IfOk result (λ stays. AreReadsOf plan.now (reads_then views.old.reads.items stays)) }
     ensures holders { IfOk result (λ stays. IsTrue (is_taken answer)
         → AreHolders plan.now behind.now (reads_then views.old.reads.items stays) (holders_then views.new.holders.items stays)) }

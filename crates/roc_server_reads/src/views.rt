@@ -74,7 +74,7 @@ fn count_of_writes(ran: &[Ran]) -> usize
 }
 
 /// Behind a step that was answered so, and in which this ran: what it wrote is counted, and these reads stay. Behind a step that was ignored all stays.
-/// Takes no memory: the room to count in was taken by [`plan_reads`].
+/// Takes no memory: the room to count in was taken by [`find_reads`].
 pub fn keep_views(views: &mut Views, answer: Handled, ran: &[Ran], stays: Option<StayingReads>)
     requires { HasRoomToCount ran.now views.old }
     ensures views { viewing_of views.new ≡ viewing_then (viewing_of views.old) answer ran.now stays }

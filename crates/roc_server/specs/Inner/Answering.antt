@@ -25,7 +25,7 @@ read_step plan decided v msg answer state ran =
     if is_taken answer then answering plan decided state (with_accesses v.versions ran) (reads_with msg answer v.reads) else record { viewing = v; sends = [] }
 
 -- these reads stay, and the rest is sent
-pub record PlansReads (plan : Plan) (state : ServerState) (v : Viewing) (msg : Msg) (answer : Handled) (old new : Collected) (stays : Option StayingReads) : Type 0 where
+pub record FindsReads (plan : Plan) (state : ServerState) (v : Viewing) (msg : Msg) (answer : Handled) (old new : Collected) (stays : Option StayingReads) : Type 0 where
   pub step : (decided : List TxnId) → AreDecided state.lists.links decided
       → ((read_step plan decided v msg answer state old.ran).viewing ≡ viewing_then v answer old.ran stays)
       × HasSent old new (read_step plan decided v msg answer state old.ran).sends

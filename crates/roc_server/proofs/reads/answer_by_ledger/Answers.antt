@@ -6,7 +6,7 @@ use Rattle.roc_server_groups.specs.Indexed.{IsIndexOf}
 use Rattle.roc_server_reads.specs.Views.{viewing_of}
 use Rattle.roc_server.specs.Inner.Answering.{left_behind}
 use Rattle.roc_server.proofs.ReadsBefore.{index_now}
-use Rattle.roc_server.proofs.ReadSteps.{planned_so}
+use Rattle.roc_server.proofs.ReadSteps.{found_so}
 use Rattle.roc_server.proofs.reads.answer_by_ledger.Goals as goal
 
 pub new-behind-requires-clause-once : goal.new-behind-requires-clause-once
@@ -24,6 +24,6 @@ returns-clause-step g c =
     let is : c.new-behind.result ≡ left_behind k =
     c.new-behind.ensures
     ∙ (λ i. record { store = k.rows.store; decided = c.table.ensures.decided i; newly = c.newly.ensures i; started = c.started.ensures.groups i; starting = c.starting.ensures i }) in
-    IfOk-weaker c.plan_reads.result _ _
-    (λ stays planned. planned_so c.args.plan.now c.args.shard k c.requires.sound (viewing_of c.args.views.now) c.args.msg.now c.args.answer c.args.sends.now c.plan_reads.new.sends stays c.new-behind.result is planned)
-    c.plan_reads.ensures.step
+    IfOk-weaker c.find_reads.result _ _
+    (λ stays found. found_so c.args.plan.now c.args.shard k c.requires.sound (viewing_of c.args.views.now) c.args.msg.now c.args.answer c.args.sends.now c.find_reads.new.sends stays c.new-behind.result is found)
+    c.find_reads.ensures.step

@@ -12,8 +12,8 @@ use Rattle.roc_server_reads.specs.Views.{viewing_of}
 use Rattle.roc_step.specs.Reads.{in_turn, reads_with, with_accesses}
 use Rattle.roc_server_reads.proofs.Parting.{none_unheld}
 use Rattle.roc_server_reads.proofs.ReadsOfPlan.{reads_are, some_hold, with_fits}
-use Rattle.roc_server_reads.proofs.ReadSteps.{none_ignored, plans_none, plans_reads}
-use Rattle.roc_server_reads.proofs.answering.plan_reads.Goals as goal
+use Rattle.roc_server_reads.proofs.ReadSteps.{none_ignored, finds_none, finds_reads}
+use Rattle.roc_server_reads.proofs.answering.find_reads.Goals as goal
 
 pub returns-then-not-is_taken-clause-step : goal.returns-then-not-is_taken-clause-step
 returns-then-not-is_taken-clause-step g c =
@@ -30,7 +30,7 @@ returns-then-all_stay-clause-step g c =
     let new_is : c.unless_kept-new.result ≡ unless_kept reads (read_in msg answer) = c.unless_kept-new.ensures ∙ (λ i. unless_kept (c.as_slice.ensures.value i) (c.in_ok-read.ensures i)) in
     let holders = c.in_ok-holders.holders.items in
     let are : AreHolders plan b reads holders = subst (λ qs. AreHolders plan b qs holders) c.as_slice-2.ensures.value c.in_ok-holders.ensures.holders in
-    plans_none plan c.args.shard b (viewing_of c.args.views.now) msg answer c.args.sends.now
+    finds_none plan c.args.shard b (viewing_of c.args.views.now) msg answer c.args.sends.now
     (reads_are msg answer reads ∙ ap (λ (n : Option KeptRead). reads ++ one_more n) (sym new_is ∙ stay.0) ∙ append-nil reads)
     (none_unheld plan b reads holders are (subst (λ (hs : List (Option GroupRef)). AllByRecursion IsSome hs) c.as_slice-4.ensures.value stay.1))
     (sym c.is_taken.ensures ∙ c.if-not-is_taken.false)
@@ -58,7 +58,7 @@ returns-clause-step g c =
     let new_is : c.unless_kept-new.result ≡ unless_kept reads (read_in msg answer) = c.unless_kept-new.ensures ∙ (λ i. unless_kept (c.as_slice.ensures.value i) (c.in_ok-read.ensures i)) in
     let all = c.as_slice-5.result.now ++ one_more c.unless_kept-new.result in
     let old = c.args.sends.now in
-    plans_reads plan c.args.shard b (viewing_of c.args.views.now) msg answer old c.answer_free.new.sends (Some c.in_ok-free.field-0.stays) all
+    finds_reads plan c.args.shard b (viewing_of c.args.views.now) msg answer old c.answer_free.new.sends (Some c.in_ok-free.field-0.stays) all
     (reads_are msg answer reads ∙ (λ i. sym c.as_slice-5.ensures.value i ++ one_more (sym new_is i))) c.in_ok-free.ensures.stays
     (subst (λ counts. HasSent old c.answer_free.new.sends (map (readok_over plan c.args.shard b.store (with_accesses counts old.ran)) (in_turn (filter free all)))) c.reserve_counts.ensures.same
     (subst (λ qs. HasSent old c.answer_free.new.sends (map (readok_over plan c.args.shard b.store (with_accesses c.reserve_counts.new.versions.counts old.ran)) (in_turn qs)))
