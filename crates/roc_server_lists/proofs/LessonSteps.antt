@@ -153,7 +153,7 @@ module _ (k new : ListParts) (l : Lesson) (p : AreListsTried k l) (n : KeepsFoun
     over = subst (λ marks. AreOver marks new.taken.components l.over.items) (sym n.marks) (subst (λ cs. AreOver k.marks cs l.over.items) (sym n.taken) p.over);
   }
 
-  -- the lists are the planned ones
+  -- and what is kept is what the trial leaves before anything is forgotten
   pub lists_kept : kept_in new ≡ with_lists k l
   lists_kept i = record {
     lists = record { known = n.known i; links = n.links i; waiting = n.waiting i; taken = n.taken i };

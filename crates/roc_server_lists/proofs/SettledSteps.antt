@@ -221,7 +221,7 @@ module _ (k : ListParts) (s : Settling) (p : IsSettledTried k s) where
       over = subst (AreOver s.marks taken.components) (sym fourth_is) (subst (λ cs. AreOver s.marks cs s.over.items) (sym taken_are) p.found.over);
     }
 
-    -- the lists are the planned ones
+    -- and what is kept is what the trial leaves before anything is forgotten
     pub settled_kept : kept_in (kept_with table) ≡ with_settled k s
     settled_kept i = record {
       lists = record { known = known_are i; links = links_are i; waiting = waiting_is i; taken = taken_are i };

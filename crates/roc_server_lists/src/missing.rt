@@ -79,7 +79,7 @@ fn is_lacking(parts: &ListParts, started: &StartedGroups, done: &[TxnId], edge: 
     !is_among_rising(done, edge.from()) && is_missing(&parts.table, started, &parts.waits, edge)
 }
 
-// What is asked for, and of which shard: the least that entries tell. Only an ended transaction is named by known lists that the entry is not of.
+// What is asked for, and of which shard: the least that entries tell. What is missing and not ended is named by no list that was known before.
 fn ask_for(marks: &Marks, table: &ListTable, edge: Edge) -> OpenFetch
     ensures { result ≡ asked_by marks.now table.now.known edge }
 {

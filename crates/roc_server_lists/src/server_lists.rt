@@ -57,7 +57,7 @@ impl ServerLists {
         }
     }
 
-    /// The table of the lists. Of lists that are tried it has those already; what is decided it says as it was before the step.
+    /// The table of the lists. What is decided it says as it was before the step. Of what it knows and follows something is said only where nothing is tried.
     pub fn table(&self) -> &ListTable
         ensures decided { result.now.decided ≡ self.now.decided }
         ensures known { self.now.tried ≡ None → result.now.known ≡ self.now.kept.lists.known }
@@ -168,7 +168,8 @@ impl ServerLists {
         )
     }
 
-    /// Tries that nobody has to wait for a transaction any more, where its watermark ends it. `NoMemory` leaves what was kept.
+    /// Tries that a coordinator's watermark is heard, with which nobody has to wait for a transaction any more, where the watermark ends it. `NoMemory` leaves
+    /// what was kept.
     pub fn settle(&mut self, id: TxnId, mark: u32) -> Result<(), NoMemory>
         requires untried { self.old.tried ≡ None }
         ensures ok { OnOk result ((s : ServerState) → lists_of s ≡ self.old.kept → IsTried (IsSettledBy s self.old.decided id mark) self.new.tried) }
@@ -199,7 +200,7 @@ impl ServerLists {
         roll_back(&mut self.parts, &mut self.trial);
     }
 
-    /// All goes but the watermarks, and what was tried. Takes no memory.
+    /// What was tried goes, and all that was kept but the watermarks. Takes no memory.
     pub fn renew(&mut self)
         ensures kept { self.new.kept ≡ record self.old.kept { lists = no_lists } }
         ensures decided { self.new.decided ≡ [] }

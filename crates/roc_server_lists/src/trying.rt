@@ -81,7 +81,7 @@ pub(crate) fn teach(
     Ok(())
 }
 
-// Tries that nobody has to wait for a transaction any more.
+// Tries that a coordinator's watermark is heard, with which nobody has to wait for a transaction any more, where the watermark ends it.
 pub(crate) fn settle(
     alloc: Global,
     parts: &mut ListParts,
@@ -127,7 +127,7 @@ pub(crate) fn roll_back(parts: &mut ListParts, trial: &mut Option<Trial>)
     }
 }
 
-// All goes but the watermarks, and what was tried.
+// What was tried goes, and all that was kept but the watermarks.
 pub(crate) fn renew(alloc: Global, parts: &mut ListParts, trial: &mut Option<Trial>)
     requires { AreHeld parts.old trial.old }
     ensures kept { (lists_now parts.new trial.new).kept ≡ record (lists_now parts.old trial.old).kept { lists = no_lists } }

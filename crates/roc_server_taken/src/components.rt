@@ -155,7 +155,7 @@ fn forget_under(components: &mut Vec<Component>, marks: &Marks, coord: u16)
     }
 }
 
-// Those that are over go. None of the others is looked at again before the member under which it stands then is ended.
+// Those that are over go, and the others stand under members that are not ended: none of them is looked at again before that one is.
 pub(crate) fn forget_over(components: &mut Vec<Component>, marks: &Marks)
     requires { AreStanding components.old.items }
     ensures standing { AreStanding components.new.items }
@@ -168,7 +168,8 @@ pub(crate) fn forget_over(components: &mut Vec<Component>, marks: &Marks)
     }
 }
 
-// Takes more, each under a member that is not ended and with a turn of its own behind the others, and answers the next turn. There is room for them, and there are turns.
+// Takes more, each under a member of its own, one that is not ended where there is one, with a turn behind the others, and answers the next turn.
+// There is room for them, and there are turns.
 pub(crate) fn add_all(
     components: &mut Vec<Component>,
     marks: &Marks,

@@ -2,8 +2,8 @@
 //! "Forgetting").
 //!
 //! Contracts see [`Taken`] as the components in the order in which they were taken, with how many more find room (`specs/Components.antt`), and
-//! [`Marks`] as the watermarks of `roc_step`. Which components are over is found by coordinator and sequence: each stands under one of its transactions that
-//! is not ended, and none is looked at that has no ended transaction (`lent_components.rt`).
+//! [`Marks`] as the watermarks of `roc_step`. Which components are over is found by coordinator and sequence: each stands under one of its transactions, and
+//! behind [`Taken::forget`] under one that is not ended. None is looked at that has no ended transaction (`lent_components.rt`).
 #![tactic(auto)]
 
 mod components;

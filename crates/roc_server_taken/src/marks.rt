@@ -30,6 +30,7 @@ impl Marks {
     }
 
     /// What they are once a coordinator has told this watermark. One past the last coordinator is not kept, and one that is not higher changes nothing.
+    /// Takes no memory.
     pub fn raised(&self, coord: u16, mark: u32) -> Marks
         ensures { result ≡ raised self.now coord mark }
     {
@@ -45,11 +46,12 @@ impl Marks {
     pub(crate) fn count(&self) -> u16
         ensures { result ≡ length self.now }
     {
+        // This look lets the proof see how many the invariant says there are.
         let _ = &self.below;
         self.below.len() as u16
     }
 
-    /// The watermark of a coordinator, 0 where none was heard.
+    /// The watermark of a coordinator, 0 where none was heard. Takes no memory.
     pub fn of(&self, coord: u16) -> u32
         ensures { result ≡ mark_of self.now coord }
     {
@@ -59,7 +61,7 @@ impl Marks {
         }
     }
 
-    /// Whether a transaction is below its coordinator's watermark.
+    /// Whether a transaction is below its coordinator's watermark. Takes no memory.
     pub fn is_ended(&self, id: TxnId) -> bool
         ensures { result ≡ is_ended self.now id }
     {

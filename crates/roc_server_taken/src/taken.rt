@@ -46,7 +46,8 @@ impl Taken {
         }
     }
 
-    /// Takes memory ahead, so that this many more find room. What was taken stays, whether there is memory or not.
+    /// Takes memory ahead, so that this many more find room. What was taken stays, whether there is memory or not. Beyond 2^64 - 1 components in all there are
+    /// no turns: that is `NoMemory`, too.
     pub fn reserve(&mut self, more: usize) -> Result<(), NoMemory>
         ensures components { self.new.components ≡ self.old.components }
         ensures ok { OnOk result (more ≤ self.new.spare) }

@@ -25,29 +25,32 @@ use Rattle.roc_server_lists.specs.ListsNow.{is_missing_at}
 
 -- ---- what the definitions say of a state, by the parts of it that they look at
 
+-- entries of this transaction are done once lists are known
 abbrev pub is_done_at : Shard → List StartedGroup → (below : List ℕ) → (known : List KnownList) → TxnId → Bool
 is_done_at shard started below known id = is_ended below id && (not (is_here id started) && least_naming id (suc shard.0) (all_entries known) == shard.0)
 
+-- what is followed of new lists
 abbrev pub links_at : Shard → List StartedGroup → ListParts → (news : List KnownList) → List KnownList
 links_at shard started k news = map (without_links (is_done_at shard started k.marks (k.table.known ++ news))) news
 
+-- what is missing of what is followed, as it is asked for
 abbrev pub missing_at : List StartedGroup → (known links : List KnownList) → (asked : List OpenFetch) → List OpenFetch
 missing_at started known links asked = map (asked_of known) (filter (is_missing_at started links asked) (united (all_entries links)))
+
+-- entries of this transaction are done as they are learnt, where the shard of one is the least that new lists tell
+abbrev pub is_done_with : Shard → List StartedGroup → (below : List ℕ) → (known : List KnownList) → Dependency → Bool
+is_done_with shard started below known d =
+    is_ended below d.from && (not (is_here d.from started) && least_naming d.from (min d.at.0 (suc shard.0)) (all_entries known) == shard.0)
+
+-- what is followed is of the lists as they came, place by place
+abbrev pub AreIdsSame : TableLists → Type 0
+AreIdsSame t = map (λ k. k.of) t.links ≡ map (λ k. k.of) t.known
 
 -- ---- what is found
 
 -- what is asked for, of the least shard that entries tell: of a transaction that is not ended, no known list tells more than the entry
 abbrev pub asked_by : (marks : List ℕ) → (known : List KnownList) → Dependency → OpenFetch
 asked_by marks known d = if is_ended marks d.from then asked_of known d else record { id = d.from; at = d.at }
-
--- what is followed is of the lists as they came, place by place
-abbrev pub AreIdsSame : TableLists → Type 0
-AreIdsSame t = map (λ k. k.of) t.links ≡ map (λ k. k.of) t.known
-
--- Entries of this transaction are done as they are learnt, where the shard of one is the least that new lists tell
-abbrev pub is_done_with : Shard → List StartedGroup → (below : List ℕ) → (known : List KnownList) → Dependency → Bool
-is_done_with shard started below known d =
-    is_ended below d.from && (not (is_here d.from started) && least_naming d.from (min d.at.0 (suc shard.0)) (all_entries known) == shard.0)
 
 -- new lists were learnt, with what is followed of them, and this is what they name, and whose entries are done
 pub record Learns (shard : Shard) (started : List StartedGroup) (old new : ListParts) (news : List KnownList) (named : Named) : Type 0 where

@@ -13,6 +13,7 @@ use Rattle.roc_step.specs.Links.{AreLinksOf}
 use Rattle.roc_server_lists.specs.declared.parts.ListParts.{ListParts}
 use Rattle.roc_server_lists.specs.ListsNow.{KeptLists}
 
+-- the lists and watermarks that they hold
 abbrev pub kept_in : ListParts → KeptLists
 kept_in k =
     record {

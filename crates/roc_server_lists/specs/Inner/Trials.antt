@@ -42,6 +42,7 @@ before_trial k (Lists l) = unlearnt k l
 before_trial k (Marks h) = k
 before_trial k (Settled s) = k
 
+-- the same, where something was tried
 abbrev pub before : ListParts → Option Trial → ListParts
 before k None = k
 before k (Some trial) = before_trial k trial
@@ -94,27 +95,32 @@ with_settled k s =
       below = s.marks;
     }
 
+-- what is kept behind it
 abbrev pub after : ListParts → Trial → KeptLists
 after k (Asker asker) = with_one_asking asker (kept_in k)
 after k (Lists l) = lists_forgetting (with_lists k l)
 after k (Marks h) = lists_forgetting (record (kept_in k) { below = h.marks })
 after k (Settled s) = lists_forgetting (with_settled k s)
 
+-- what it newly decides, one component after another
 abbrev pub newly : Trial → List TxnId
 newly (Lists l) = l.found.ids.items
 newly (Settled s) = s.ids.items
 newly trial = []
 
+-- what it asks for
 abbrev pub asks : Trial → List OpenFetch
 asks (Lists l) = l.found.asks.items
 asks trial = []
 
+-- what it forgets
 abbrev pub over_by : Trial → List TxnId
 over_by (Asker asker) = []
 over_by (Lists l) = l.over.items
 over_by (Marks h) = h.over.items
 over_by (Settled s) = s.over.items
 
+-- all of it, as contracts see it
 abbrev pub tried_of : ListParts → Trial → TriedLists
 tried_of k trial = record { kept = after k trial; newly = newly trial; asks = asks trial; over = over_by trial }
 
@@ -134,6 +140,7 @@ pub record HasRoomToKeep (k : ListParts) (found : Found) : Type 0 where
   pub asks : length found.asks.items ≤ k.waits.spare
   pub components : length found.components.items ≤ k.taken.spare
 
+-- all is right without the lists that were learnt; what was found of them is right, and there is room for it
 pub record AreListsTried (k : ListParts) (l : Lesson) : Type 0 where
   pub sound : AreConsistent (unlearnt k l)
   pub learnt : AreLearnt k l.news.items
@@ -146,6 +153,7 @@ pub record AreListsTried (k : ListParts) (l : Lesson) : Type 0 where
   pub room : HasRoomToKeep k l.found
   pub over : AreOver k.marks (k.taken.components ++ l.found.components.items) l.over.items
 
+-- all is right; the watermarks only rise, and this is over by them
 pub record AreMarksTried (k : ListParts) (h : Heard) : Type 0 where
   pub sound : AreConsistent k
   pub risen : (t : TxnId) → is_ended k.marks t ≡ true → is_ended h.marks t ≡ true
@@ -161,6 +169,7 @@ pub record IsSettling (k : ListParts) (id : TxnId) (mark : ℕ) (f : Settling) :
   pub ids : f.ids.items ≡ flat_map (λ c. c) f.components.items
   pub over : AreOver f.marks (k.taken.components ++ f.components.items) f.over.items
 
+-- all is right; this comes of some settled transaction, and there is room for it
 pub record IsSettledTried (k : ListParts) (s : Settling) : Type 0 where
   pub sound : AreConsistent k
   pub id : TxnId
@@ -168,12 +177,14 @@ pub record IsSettledTried (k : ListParts) (s : Settling) : Type 0 where
   pub found : IsSettling k id mark s
   pub room : length s.components.items ≤ k.taken.spare
 
+-- what is tried is right, whatever it is
 abbrev pub IsTrial : ListParts → Trial → Type 0
 IsTrial k (Asker asker) = AreConsistent k × (0 < k.waits.spare)
 IsTrial k (Lists l) = AreListsTried k l
 IsTrial k (Marks h) = AreMarksTried k h
 IsTrial k (Settled s) = IsSettledTried k s
 
+-- what is tried is right, where something is, and else what is kept
 abbrev pub AreHeld : ListParts → Option Trial → Type 0
 AreHeld k None = AreConsistent k
 AreHeld k (Some trial) = IsTrial k trial

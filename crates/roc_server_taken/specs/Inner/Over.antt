@@ -89,7 +89,7 @@ pub record AddsAll (added old new : List TxnId) : Type 0 where
   pub only : (t : TxnId) → Has t new → Has t old ⊎ Has t added
   pub all : (t : TxnId) → Has t added → Has t new
 
--- the same of the transactions of those that are over, as far as they stand under lower coordinators
+-- transactions of those that are over were added to the ids, and nothing else: all of those that stand under lower coordinators
 pub record AddsUpto (below : List ℕ) (upto : ℕ) (cs : List Component) (old new : List TxnId) : Type 0 where
   pub stay : (t : TxnId) → Has t old → Has t new
   pub only : (t : TxnId) → Has t new → Has t old ⊎ Has t (over below (members_by_turn cs))
