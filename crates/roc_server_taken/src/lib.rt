@@ -3,7 +3,7 @@
 //!
 //! Contracts see [`Taken`] as the components in the order in which they were taken, with how many more find room (`specs/Components.antt`), and
 //! [`Marks`] as the watermarks of `roc_step`. Which components are over is found by coordinator and sequence: each stands under one of its transactions, and
-//! behind [`Taken::forget`] under one that is not ended. None is looked at that has no ended transaction (`lent_components.rt`).
+//! behind [`Taken::forget`] under one that is not ended. None is looked at that has no ended transaction ([`over_counted`]).
 #![tactic(auto)]
 
 mod components;
@@ -12,4 +12,4 @@ mod marks;
 mod taken;
 
 pub use marks::Marks;
-pub use taken::{Taken, over_among, over_within, push_members};
+pub use taken::{Taken, over_among, over_counted, over_within, push_members};

@@ -119,7 +119,7 @@ pub fn over_within(
     rising(alloc, &ids)
 }
 
-/// The same of those that were taken and of more.
+/// The transactions of components that are over, by id: of those that were taken, and of more ([`over_counted`], where nobody counts).
 pub fn over_among(
     alloc: Global,
     marks: &Marks,
@@ -149,8 +149,9 @@ fn over_with<L: Ledger>(
     over_counted(alloc, marks, taken, more, &mut steps)
 }
 
-// The same with a step for each look at one that was taken: no more than have an ended transaction.
-fn over_counted<L: Ledger>(
+/// The transactions of components that are over, by id: of those that were taken, and of more. A step is one look at one that was taken: there are no more
+/// than have an ended transaction.
+pub fn over_counted<L: Ledger>(
     alloc: Global,
     marks: &Marks,
     taken: &Taken,
