@@ -71,11 +71,11 @@ pub(crate) fn ended_under<'a>(
     &components[from..][..len]
 }
 
-// Where the first stands of those that stand under ended members of a coordinator: where those of the coordinator begin.
+// Where one stands under an ended member of a coordinator, where there is one.
 fn first_under(components: &[Component], marks: &Marks, coord: u16) -> Option<usize>
     requires { IsRising is_not_ahead components.now }
     ensures some { IfSome result (λ at. at < length components.now) }
-    ensures ended { IfSome result (λ at. (c : Seen) → slice_get components.now at ≡ Some c → is_ended marks.now c.under ≡ true) }
+    ensures under { IfSome result (λ at. (c : Seen) → slice_get components.now at ≡ Some c → is_under marks.now coord c ≡ true) }
     ensures none { IfNone result (AllByRecursion (λ c. is_under marks.now coord c ≡ false) components.now) }
 {
     let at = count_before(components, TxnId { coord, seq: 0 });
