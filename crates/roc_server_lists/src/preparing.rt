@@ -37,8 +37,8 @@ pub(crate) fn prepare_lists(
     ensures from { IfOk result (λ l. kept_in (unlearnt parts.new l) ≡ kept_in parts.old) }
     ensures left { IfOk result (λ l. IsNoneLeft (groups_without l.over.items started.now.groups) (after parts.new (ListsCome l)).lists) }
     ensures decided { parts.new.table.decided ≡ parts.old.table.decided }
-    ensures same { OnErr result (kept_in parts.new ≡ kept_in parts.old) }
-    ensures err { OnErr result (AreConsistent parts.new) }
+    ensures kept { OnErr result (kept_in parts.new ≡ kept_in parts.old) }
+    ensures sound { OnErr result (AreConsistent parts.new) }
 {
     let named = learn(alloc, shard, parts, started, &news)?;
     match find_with_room(alloc, parts, started, &named) {

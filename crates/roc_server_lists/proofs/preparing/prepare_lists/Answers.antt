@@ -83,8 +83,8 @@ returns-in-Ok-clause-decided c =
     decided_is c.args.shard c.args.started.now.groups old c.learn.new.parts news named c.requires.sound c.requires.learnable l
     c.find_with_room.new.parts c.in-Ok.ensures.same
 
-pub returns-in-Err-clause-same : goal.returns-in-Err-clause-same
-returns-in-Err-clause-same c =
+pub returns-in-Err-clause-kept : goal.returns-in-Err-clause-kept
+returns-in-Err-clause-kept c =
     let old = c.args.parts.now in
     let news = c.args.news.items in
     let named = c.in_ok-named.named in
@@ -94,8 +94,8 @@ returns-in-Err-clause-same c =
     c.find_with_room.new.parts c.in-Err.ensures.same c.deref-in-Err.result.now c.deref-in-Err.ensures.value
     c.unlearn.new.self c.unlearn.ensures.known c.unlearn.ensures.links c.unlearn.ensures.decided)
 
-pub returns-in-Err-clause-err : goal.returns-in-Err-clause-err
-returns-in-Err-clause-err c =
+pub returns-in-Err-clause-sound : goal.returns-in-Err-clause-sound
+returns-in-Err-clause-sound c =
     let old = c.args.parts.now in
     let news = c.args.news.items in
     let named = c.in_ok-named.named in
