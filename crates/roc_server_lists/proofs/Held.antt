@@ -1,5 +1,5 @@
 -- What is kept while one step is tried
-use Rattle.std.proofs.Common.{◌≡◌, List, [], Option, Some, None, not, filter, refl, sym, ap, subst, ◌∙◌}
+use Rattle.std.proofs.Common.{◌≡◌, List, [], Option, Some, None, Result, Ok, Err, OnErr, not, filter, refl, sym, ap, subst, ◌∙◌}
 use Rattle.std.proofs.lemmas.Option.{none-some}
 use Rattle.roc_sequence.specs.Places.{is_listed}
 use Rattle.roc_base.specs.TxnId.{is_txn}
@@ -37,6 +37,10 @@ module _ (k : ListParts) (trial : Option Trial) (none : (lists_now k trial).trie
 -- and still nothing is
 pub still_held : (k new : ListParts) (trial : Option Trial) → (lists_now k trial).tried ≡ None → AreConsistent new → AreHeld new trial
 still_held k new trial none sound = subst (AreHeld new) (sym (untried k trial none)) sound
+
+pub still_none : {T E : Type 0} (r : Result T E) (k new : ListParts) (trial : Option Trial) → (lists_now k trial).tried ≡ None → OnErr r ((lists_now new trial).tried ≡ None)
+still_none (Ok a) k new trial none = tt
+still_none (Err e) k new trial none = ap (λ t. (lists_now new t).tried) (untried k trial none)
 
 -- ---- what a step leaves as it was until it is kept
 

@@ -1,5 +1,5 @@
 //! The lists of a server, of which one step at a time is tried.
-ghost use Rattle.std.specs.Prelude.{◌≡◌, [], not, filter, None, Some, OnOk};
+ghost use Rattle.std.specs.Prelude.{◌≡◌, [], not, filter, None, Some, OnErr, OnOk};
 ghost use Rattle.roc_depgraph.specs.Deps.{is_known};
 ghost use Rattle.roc_step.specs.Below.{is_ended, mark_of};
 ghost use Rattle.roc_step.specs.Learning.{AreLearnable};
@@ -116,11 +116,12 @@ impl ServerLists {
         over_of(&self.trial)
     }
 
-    /// Tries that a shard waits for a list. `NoMemory` leaves what was kept.
+    /// Tries that a shard waits for a list. `NoMemory` leaves what was kept, and then nothing is tried.
     pub fn ask(&mut self, asker: Asker) -> Result<(), NoMemory>
         requires untried { self.old.tried ≡ None }
         ensures ok { OnOk result (self.new.tried ≡ Some (record { kept = with_one_asking asker self.old.kept; newly = []; asks = []; over = [] })) }
         ensures left { OnOk result (LeavesNone self.old self.new) }
+        ensures none { OnErr result (self.new.tried ≡ None) }
         ensures kept { self.new.kept ≡ self.old.kept }
         ensures decided { self.new.decided ≡ self.old.decided }
         ensures sound { AreSound self.new }
@@ -128,11 +129,12 @@ impl ServerLists {
         ask(&mut self.parts, &mut self.trial, asker)
     }
 
-    /// Tries that a watermark is heard. `NoMemory` leaves what was kept.
+    /// Tries that a watermark is heard. `NoMemory` leaves what was kept, and then nothing is tried.
     pub fn hear(&mut self, coord: u16, mark: u32) -> Result<(), NoMemory>
         requires untried { self.old.tried ≡ None }
         ensures ok { OnOk result ((s : ServerState) → lists_of s ≡ self.old.kept → IsTried (IsHeard s coord mark) self.new.tried) }
         ensures left { OnOk result (LeavesNone self.old self.new) }
+        ensures none { OnErr result (self.new.tried ≡ None) }
         ensures kept { self.new.kept ≡ self.old.kept }
         ensures decided { self.new.decided ≡ self.old.decided }
         ensures sound { AreSound self.new }
@@ -141,7 +143,7 @@ impl ServerLists {
     }
 
     /// Tries that lists are taught, of transactions of which none is known, on the server of this shard where these groups started. `NoMemory` leaves what was
-    /// kept.
+    /// kept, and then nothing is tried.
     pub fn teach(
         &mut self,
         shard: Shard,
@@ -154,6 +156,7 @@ impl ServerLists {
         ensures ok { OnOk result ((s : ServerState) → s.shard ≡ shard → s.started ≡ started.now.groups → lists_of s ≡ self.old.kept
             → IsTried (IsTaught s self.old.decided news.items) self.new.tried) }
         ensures left { OnOk result (IsNoneLeft (groups_without (over_of self.new.tried) started.now.groups) (lists_behind self.new).lists) }
+        ensures none { OnErr result (self.new.tried ≡ None) }
         ensures kept { self.new.kept ≡ self.old.kept }
         ensures decided { self.new.decided ≡ self.old.decided }
         ensures sound { AreSound self.new }
@@ -169,11 +172,12 @@ impl ServerLists {
     }
 
     /// Tries that a coordinator's watermark is heard, with which nobody has to wait for a transaction any more, where the watermark ends it. `NoMemory` leaves
-    /// what was kept.
+    /// what was kept, and then nothing is tried.
     pub fn settle(&mut self, id: TxnId, mark: u32) -> Result<(), NoMemory>
         requires untried { self.old.tried ≡ None }
         ensures ok { OnOk result ((s : ServerState) → lists_of s ≡ self.old.kept → IsTried (IsSettledBy s self.old.decided id mark) self.new.tried) }
         ensures left { OnOk result (LeavesNone self.old self.new) }
+        ensures none { OnErr result (self.new.tried ≡ None) }
         ensures kept { self.new.kept ≡ self.old.kept }
         ensures decided { self.new.decided ≡ self.old.decided }
         ensures sound { AreSound self.new }

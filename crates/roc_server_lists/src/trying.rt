@@ -1,5 +1,5 @@
 //! A step is tried, and then kept or given up.
-ghost use Rattle.std.specs.Prelude.{◌≡◌, [], None, Some, OnOk};
+ghost use Rattle.std.specs.Prelude.{◌≡◌, [], None, Some, OnErr, OnOk};
 ghost use Rattle.roc_step.specs.Learning.{AreLearnable};
 ghost use Rattle.roc_step.specs.State.{ServerState};
 ghost use Rattle.roc_server_groups.specs.GroupsNow.{groups_without};
@@ -26,6 +26,7 @@ pub(crate) fn ask(
     requires untried { (lists_now parts.old trial.old).tried ≡ None }
     ensures ok { OnOk result ((lists_now parts.new trial.new).tried ≡ Some (record { kept = with_one_asking asker (lists_now parts.old trial.old).kept; newly = []; asks = []; over = [] })) }
     ensures left { OnOk result (LeavesNone (lists_now parts.old trial.old) (lists_now parts.new trial.new)) }
+    ensures none { OnErr result ((lists_now parts.new trial.new).tried ≡ None) }
     ensures kept { (lists_now parts.new trial.new).kept ≡ (lists_now parts.old trial.old).kept }
     ensures decided { parts.new.table.decided ≡ parts.old.table.decided }
     ensures held { AreHeld parts.new trial.new }
@@ -47,6 +48,7 @@ pub(crate) fn hear(
     requires untried { (lists_now parts.old trial.old).tried ≡ None }
     ensures ok { OnOk result ((s : ServerState) → lists_of s ≡ (lists_now parts.old trial.old).kept → IsTried (IsHeard s coord mark) (lists_now parts.new trial.new).tried) }
     ensures left { OnOk result (LeavesNone (lists_now parts.old trial.old) (lists_now parts.new trial.new)) }
+    ensures none { OnErr result ((lists_now parts.new trial.new).tried ≡ None) }
     ensures kept { (lists_now parts.new trial.new).kept ≡ (lists_now parts.old trial.old).kept }
     ensures decided { parts.new.table.decided ≡ parts.old.table.decided }
     ensures held { AreHeld parts.new trial.new }
@@ -72,6 +74,7 @@ pub(crate) fn teach(
     ensures ok { OnOk result ((s : ServerState) → s.shard ≡ shard → s.started ≡ started.now.groups → lists_of s ≡ (lists_now parts.old trial.old).kept
         → IsTried (IsTaught s parts.old.table.decided news.items) (lists_now parts.new trial.new).tried) }
     ensures left { OnOk result (IsNoneLeft (groups_without (over_of (lists_now parts.new trial.new).tried) started.now.groups) (lists_behind (lists_now parts.new trial.new)).lists) }
+    ensures none { OnErr result ((lists_now parts.new trial.new).tried ≡ None) }
     ensures kept { (lists_now parts.new trial.new).kept ≡ (lists_now parts.old trial.old).kept }
     ensures decided { parts.new.table.decided ≡ parts.old.table.decided }
     ensures held { AreHeld parts.new trial.new }
@@ -93,6 +96,7 @@ pub(crate) fn settle(
     requires untried { (lists_now parts.old trial.old).tried ≡ None }
     ensures ok { OnOk result ((s : ServerState) → lists_of s ≡ (lists_now parts.old trial.old).kept → IsTried (IsSettledBy s parts.old.table.decided id mark) (lists_now parts.new trial.new).tried) }
     ensures left { OnOk result (LeavesNone (lists_now parts.old trial.old) (lists_now parts.new trial.new)) }
+    ensures none { OnErr result ((lists_now parts.new trial.new).tried ≡ None) }
     ensures kept { (lists_now parts.new trial.new).kept ≡ (lists_now parts.old trial.old).kept }
     ensures decided { parts.new.table.decided ≡ parts.old.table.decided }
     ensures held { AreHeld parts.new trial.new }
