@@ -25,7 +25,7 @@ module _ (links left : List KnownList) (over all : List TxnId) (left_is : left �
   stays t = not (forgotten t)
 
   -- the members that are not forgotten are decided by what is left
-  pub some_decided : (t : TxnId) → IsListed is_txn (filter stays all) t → IsDecided left t
+  some_decided : (t : TxnId) → IsListed is_txn (filter stays all) t → IsDecided left t
   some_decided t l =
       let p = from_listed_filter is_txn is_txn-true stays all t l in
       subst (λ ks. IsDecided ks t) (sym left_is) (decided_left forgotten links t (decided t p.1) (not-true (forgotten t) p.0))

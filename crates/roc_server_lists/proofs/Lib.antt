@@ -1,21 +1,21 @@
 mod AlikeTests
 mod DoneSteps
-pub mod ForgetSteps
+mod ForgetSteps
 mod HeardMarks
-pub mod Held
+mod Held
 mod LeftOut
 mod LeftSteps
-pub mod LessonSteps
-pub mod MarkedLinks
+mod LessonSteps
+mod MarkedLinks
 mod MissingSteps
-pub mod NoLists
+mod NoLists
 mod NoneLeft
-pub mod NoneOver
-pub mod OneSettled
+mod NoneOver
+mod OneSettled
 mod RoomAside
 mod SettledFound
-pub mod SettledSteps
-pub mod SomeLeft
-pub mod Sound
+mod SettledSteps
+mod SomeLeft
+mod Sound
 mod TaughtParts
-pub mod Undone
+mod Undone

@@ -25,7 +25,7 @@ module _ (done : TxnId → Bool) (links : List KnownList) where
   pub marked_known : (t : TxnId) → is_known marked t ≡ is_known links t
   marked_known t = known_alike links marked (ids_without done links) t
 
-  pub list_marked : (ks : List KnownList) (t : TxnId) → list_of t (map (without_links done) ks) ≡ option_map some_of (list_of t ks)
+  list_marked : (ks : List KnownList) (t : TxnId) → list_of t (map (without_links done) ks) ≡ option_map some_of (list_of t ks)
   list_marked [] t = refl
   list_marked (k ∷ ks) t = go (is_txn k.of t) (list_marked ks t)
     where

@@ -1,5 +1,5 @@
 -- What is followed names nothing that is left out, once what is over is forgotten
-use Rattle.std.proofs.Common.{◌≡◌, ◌&&◌, Bool, false, not, List, [], filter, refl, sym, subst, ◌∙◌}
+use Rattle.std.proofs.Common.{◌≡◌, ◌&&◌, Bool, false, not, List, filter, subst, ◌∙◌}
 use Rattle.std.proofs.lemmas.Bool.{not-true}
 use Rattle.roc_sequence.specs.Lists.{Has}
 use Rattle.roc_sequence.specs.Places.{is_listed}
@@ -19,7 +19,6 @@ use Rattle.roc_step.specs.State.{Lists}
 use Rattle.roc_step.proofs.ForgottenLinks.{known_left, left_known}
 use Rattle.roc_step.proofs.WithoutLinks.{entries_left}
 use Rattle.roc_server_groups.specs.GroupsNow.{groups_without}
-use Rattle.roc_server_groups.proofs.IndexSteps.{filter_all}
 use Rattle.roc_server_lists.specs.ListsNow.{is_missing_at, IsNoneLeft, KeptLists}
 use Rattle.roc_server_taken.specs.Components.{AreOver}
 use Rattle.roc_server_lists.specs.Inner.Trials.{lists_forgetting}
@@ -63,7 +62,3 @@ left_forgetting started k ids are none = has_all (λ d. is_missing_at (groups_wi
         let here = any_some (λ (e : StartedGroup). e.id) (is_listed is_txn ids) d.from (is_forgotten d.from ∙ n) started in
         let asked = any_some (λ (a : OpenFetch). a.id) forgotten d.from n k.lists.waiting.asked in
         (λ i. not (same_known d.from n i) && (not (here i) && not (asked i))) ∙ all_has (λ d. is_missing_at started k.lists.links k.lists.waiting.asked d ≡ false) d (all_entries k.lists.links) none named
-
--- and where nothing is forgotten, all is as it was
-pub left_same : (started : List StartedGroup) (l : Lists) → IsNoneLeft started l → IsNoneLeft (groups_without [] started) l
-left_same started l none = subst (λ es. IsNoneLeft es l) (sym (filter_all (λ (e : StartedGroup). not (is_listed is_txn [] e.id)) started (λ e h. refl))) none

@@ -15,9 +15,8 @@ use Rattle.roc_step.specs.New.{AreNewTaken}
 use Rattle.roc_server_table.specs.Kept.{TableLists}
 use Rattle.roc_server_lists.specs.declared.parts.ListParts.{ListParts}
 use Rattle.roc_server_lists.specs.declared.trial.Settling.{Settling}
-use Rattle.roc_server_taken.specs.Components.{AreOver}
+use Rattle.roc_server_taken.specs.Components.{AreOver, TakenComponents}
 use Rattle.roc_server_lists.specs.Inner.Finding.{AreAlike}
-use Rattle.roc_server_taken.specs.Components.{TakenComponents}
 use Rattle.roc_server_lists.specs.Inner.Parts.{kept_in, AreConsistent, AreRightParts}
 use Rattle.roc_server_lists.specs.Inner.Trials.{links_settled, IsSettling}
 

@@ -76,7 +76,7 @@ module _ (k : ListParts) (id : TxnId) (mark : ℕ) (x : Settling) (f : IsSettlin
     over = subst (λ marks. AreOver marks (k.taken.components ++ components) x.over.items) f.marks f.over;
   }
 
-  pub settles : (s : ServerState) → lists_of s ≡ kept_in k → IsSettledBy s k.table.decided id mark (tried_of k (Settled x))
+  settles : (s : ServerState) → lists_of s ≡ kept_in k → IsSettledBy s k.table.decided id mark (tried_of k (Settled x))
   settles s is =
       let same : at s ≡ s = λ i. record s { lists = (sym is i).lists; below = (sym is i).below } in
       subst (λ s. IsSettledBy s k.table.decided id mark (tried_of k (Settled x))) same (at_settles s)

@@ -23,9 +23,8 @@ use Rattle.roc_server_groups.proofs.IndexSteps.{filter_both}
 use Rattle.roc_server_lists.specs.declared.parts.ListParts.{ListParts}
 use Rattle.roc_server_lists.specs.declared.trial.Heard.{Heard}
 use Rattle.roc_server_lists.specs.declared.trial.Settling.{Settling}
-use Rattle.roc_server_taken.specs.Components.{AreOver}
+use Rattle.roc_server_taken.specs.Components.{AreOver, TakenComponents}
 use Rattle.roc_server_lists.specs.Inner.Keeping.{IsOverOf}
-use Rattle.roc_server_taken.specs.Components.{TakenComponents}
 use Rattle.roc_server_lists.specs.Inner.Parts.{kept_in, AreRightParts}
 use Rattle.roc_server_lists.specs.Inner.Trials.{links_settled, with_settled, AreMarksTried, IsSettledTried}
 use Rattle.roc_server_news.proofs.FollowedLinks.{links_later, links_marked}
@@ -37,7 +36,7 @@ use Rattle.roc_server_lists.proofs.SomeLeft.{members}
 -- ---- watermarks
 
 -- by higher watermarks what is kept is right, too
-pub marks_right : (k : ListParts) (marks : List ℕ) → ((t : TxnId) → is_ended k.marks t ≡ true → is_ended marks t ≡ true) → AreRightParts k → AreRightParts (record k { marks = marks })
+marks_right : (k : ListParts) (marks : List ℕ) → ((t : TxnId) → is_ended k.marks t ≡ true → is_ended marks t ≡ true) → AreRightParts k → AreRightParts (record k { marks = marks })
 marks_right k marks risen right = record {
   decided_rising = right.decided_rising;
   decided_only = right.decided_only;

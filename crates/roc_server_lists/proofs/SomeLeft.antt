@@ -1,5 +1,5 @@
 -- What a test leaves of lists, and of components that have no member twice
-use Rattle.std.proofs.Common.{◌≡◌, ◌++◌, Bool, true, false, cond, not, List, [], ◌∷◌, filter, refl, sym, ap, subst, ◌∙◌, inl, inr, arith}
+use Rattle.std.proofs.Common.{◌≡◌, ◌++◌, Bool, true, false, cond, not, List, [], ◌∷◌, filter, refl, sym, ap, subst, ◌∙◌, inl, inr}
 use Rattle.std.proofs.lemmas.Bool.{false≢true, not_from_false}
 use Rattle.std.specs.List.{flat_map, list_any}
 use Rattle.roc_sequence.specs.Lists.{Has}
@@ -7,33 +7,11 @@ use Rattle.roc_sequence.specs.Places.{IsListed, NoneTwice}
 use Rattle.roc_sequence.proofs.Appended.{NoneTwice-append}
 use Rattle.roc_sequence.proofs.Holds.{any_has, has_any, same_tests}
 use Rattle.roc_sequence.proofs.Members.{from_has_filter, from_has_flat_map, has_filter, has_flat_map, has_left}
-use Rattle.roc_sequence.proofs.Places.{listed_cases, listed_tail, place_of-here}
 use Rattle.roc_base.specs.declared.id.TxnId.{TxnId}
 use Rattle.roc_base.specs.TxnId.{is_txn}
 use Rattle.roc_base.specs.Equalities.{is_txn-same, is_txn-true}
 use Rattle.roc_component.proofs.OneTaken.{none_behind, none_in_both}
 use Rattle.roc_depgraph.proofs.Listed.{has_listed, listed_has}
-
-module _ {A : Type 0} (is : A → A → Bool) (p : A → Bool) where
-  -- what is left was there
-  pub listed_some : (xs : List A) (a : A) → IsListed is (filter p xs) a → IsListed is xs a
-  listed_some [] a l = l
-  listed_some (x ∷ xs) a l = go (p x) l (listed_some xs a)
-    where
-      go : (b : Bool) → IsListed is (cond b (x ∷ filter p xs) (filter p xs)) a → (IsListed is (filter p xs) a → IsListed is xs a) → IsListed is (x ∷ xs) a
-      go false m ih = listed_tail is x xs a (ih m)
-      go true m ih = elim (listed_cases is x (filter p xs) a m) [
-        | inl e ↦ (let f = place_of-here (is a) x xs e in omega arith)
-        | inr k ↦ listed_tail is x xs a (ih k.1)
-      ]
-
-  -- so what is left is there once, where all of it was
-  pub once_some : (xs : List A) → NoneTwice is xs → NoneTwice is (filter p xs)
-  once_some [] once = tt
-  once_some (x ∷ xs) once = elim (p x) as (λ b. NoneTwice is (cond b (x ∷ filter p xs) (filter p xs))) [
-    | true ↦ (λ l. once.0 (listed_some xs x l), once_some xs once.1)
-    | false ↦ once_some xs once.1
-  ]
 
 -- nothing passes a test that it did not pass
 pub none_of_others : {A : Type 0} (p : A → Bool) (xs : List A) → filter p (filter (λ x. not (p x)) xs) ≡ []

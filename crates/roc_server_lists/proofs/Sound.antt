@@ -14,7 +14,7 @@ use Rattle.roc_depgraph.specs.Closure.{IsRisingListOf}
 use Rattle.roc_depgraph.specs.Deps.{IsDecided}
 use Rattle.roc_depgraph.proofs.Laws.{decided_stays}
 use Rattle.roc_depgraph.proofs.RisingIds as rising_ids
-use Rattle.roc_depgraph.proofs.RisingLists.{none_listed, rising_one}
+use Rattle.roc_depgraph.proofs.RisingLists.{none_listed}
 use Rattle.roc_step.specs.Below.{is_ended}
 use Rattle.roc_step.specs.Forgets.{is_over, over}
 use Rattle.roc_step.specs.New.{AreDecided}
@@ -26,7 +26,7 @@ use Rattle.roc_server_lists.specs.declared.trial.Lesson.{Lesson}
 use Rattle.roc_server_lists.specs.declared.trial.Settling.{Settling}
 use Rattle.roc_server_lists.specs.declared.trial.Trial.{Trial}
 use Rattle.roc_server_lists.specs.declared.trial.Trial.TheVariants.{Asker, Lists, Marks, Settled}
-use Rattle.roc_server_lists.specs.ListsNow.{lists_behind, newly_of, over_of, AreSound, ListsNow}
+use Rattle.roc_server_lists.specs.ListsNow.{AreSound}
 use Rattle.roc_server_taken.specs.Components.{AreOver}
 use Rattle.roc_server_lists.specs.Inner.Parts.{AreRightParts}
 use Rattle.roc_server_lists.specs.Inner.Trials.{links_settled, lists_now, unlearnt, AreHeld, AreListsTried, AreMarksTried, IsSettledTried}
@@ -228,8 +228,3 @@ sound_of k (Some (Marks m)) h =
 sound_of k (Some (Settled s)) h =
     let l = settled_later k s h in
     record { same_ids = ids_right k h.sound.right; decided = are_decided k h.sound.right; later = l.later; are_later = l.are; behind = l.behind; over = h.found.over.rising }
-
--- and it is so of every rising list of what is decided behind the step, since there is only one
-pub behind_each : (l : ListsNow) → AreSound l → (after : List TxnId) → AreDecided (lists_behind l).lists.links after → AreDecidedBehind l.decided (newly_of l.tried) (over_of l.tried) after
-behind_each l sound after are =
-    subst (AreDecidedBehind l.decided (newly_of l.tried) (over_of l.tried)) (rising_one (IsDecided (lists_behind l).lists.links) sound.later after sound.are_later are) sound.behind

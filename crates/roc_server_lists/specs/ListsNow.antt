@@ -12,7 +12,7 @@ use Rattle.roc_step.specs.declared.started.StartedGroup.{StartedGroup}
 use Rattle.roc_step.specs.declared.waits.Asker.{Asker}
 use Rattle.roc_step.specs.declared.waits.OpenFetch.{OpenFetch}
 use Rattle.roc_step.specs.Below.{none_below}
-use Rattle.roc_step.specs.Forgets.{forget, over}
+use Rattle.roc_step.specs.Forgets.{forget}
 use Rattle.roc_step.specs.Links.{all_entries, without_links}
 use Rattle.roc_step.specs.Lists.{is_settled, links_of, lists_after, lists_settled, missing_after}
 use Rattle.roc_step.specs.New.{AreDecided, AreNewTaken}

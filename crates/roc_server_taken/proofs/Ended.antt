@@ -19,9 +19,6 @@ module _ (below : List ℕ) (k : ℕ) where
   abbrev mark : ℕ
   mark = mark_of below k
 
-  same_mark : (a : TxnId) (m : ℕ) → a.coord ≡ k → mark_of below a.coord ≡ m → mark_of below k ≡ m
-  same_mark a m e f = sym (ap (mark_of below) e) ∙ f
-
   -- those before all of the coordinator
   lower : (a : TxnId) → txn_lt a (at_mark k 0) ≡ true → (a.coord == k && is_ended below a) ≡ false
   lower a h = grind (arith, nat_tests)
@@ -116,7 +113,3 @@ module _ (below : List ℕ) (k : ℕ) where
 
       ordered : IsRising is_not_ahead (a ∷ rest)
       ordered = subst (IsRising is_not_ahead) e (rising_drop cs from r)
-
-  -- where all come before the coordinator, none is
-  pub none_before : (cs : List Component) → AllByRecursion (λ (c : Component). txn_lt c.under (at_mark k 0) ≡ true) cs → AllByRecursion (λ c. is_under below k c ≡ false) cs
-  none_before cs l = all_weaker (λ (c : Component). txn_lt c.under (at_mark k 0) ≡ true) (λ c. is_under below k c ≡ false) (λ c. lower c.under) cs l

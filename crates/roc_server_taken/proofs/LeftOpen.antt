@@ -23,24 +23,24 @@ module _ (x : Component) (old new : List Component) (p : IsPutBetween x old new)
   abbrev IsApart : Component → Type 0
   IsApart d = d.turn ≢ x.turn
 
-  pub put_apart : HaveOwnTurns new → AllByRecursion IsApart old × HaveOwnTurns old
+  put_apart : HaveOwnTurns new → AllByRecursion IsApart old × HaveOwnTurns old
   put_apart h =
       let k = from_turns_between x p.before p.behind (subst HaveOwnTurns p.is h) in
       (subst (AllByRecursion IsApart) (sym p.was) k.0, subst HaveOwnTurns (sym p.was) k.1)
 
-  pub apart_put : AllByRecursion IsApart old → HaveOwnTurns old → HaveOwnTurns new
+  apart_put : AllByRecursion IsApart old → HaveOwnTurns old → HaveOwnTurns new
   apart_put a h = subst HaveOwnTurns (sym p.is) (turns_between x p.before p.behind (subst (AllByRecursion IsApart) p.was a) (subst HaveOwnTurns p.was h))
 
-  pub put_is : AllByRecursion IsApart old → by_turn new ≡ put_turned (turned_component x) (by_turn old)
+  put_is : AllByRecursion IsApart old → by_turn new ≡ put_turned (turned_component x) (by_turn old)
   put_is a = ap by_turn p.is ∙ put_between x p.before p.behind (subst (AllByRecursion IsApart) p.was a) ∙ ap (λ l. put_turned (turned_component x) (by_turn l)) (sym p.was)
 
-  pub all_put : (P : Component → Type 0) → P x → AllByRecursion P old → AllByRecursion P new
+  all_put : (P : Component → Type 0) → P x → AllByRecursion P old → AllByRecursion P new
   all_put P h a = subst (AllByRecursion P) (sym p.is) (all_between P x p.before p.behind h (subst (AllByRecursion P) p.was a))
 
-  pub put_all : (P : Component → Type 0) → AllByRecursion P new → P x × AllByRecursion P old
+  put_all : (P : Component → Type 0) → AllByRecursion P new → P x × AllByRecursion P old
   put_all P a = let k = from_all_between P x p.before p.behind (subst (AllByRecursion P) p.is a) in (k.0, subst (AllByRecursion P) (sym p.was) k.1)
 
-  pub still_has : (c : Component) → Has c old → Has c new
+  still_has : (c : Component) → Has c old → Has c new
   still_has c h =
       subst (Has c) (sym p.is)
       (elim (has_append c p.before p.behind (subst (Has c) p.was h)) [
@@ -48,7 +48,7 @@ module _ (x : Component) (old new : List Component) (p : IsPutBetween x old new)
         | inr k ↦ has_right c p.before (x ∷ p.behind) (inr k)
       ])
 
-  pub had_or_is : (c : Component) → Has c new → (c ≡ x) ⊎ Has c old
+  had_or_is : (c : Component) → Has c new → (c ≡ x) ⊎ Has c old
   had_or_is c h =
       elim (has_append c p.before (x ∷ p.behind) (subst (Has c) p.is h)) [
         | inl k ↦ inr (subst (Has c) (sym p.was) (has_left c p.before p.behind k))
@@ -56,7 +56,7 @@ module _ (x : Component) (old new : List Component) (p : IsPutBetween x old new)
       ]
 
   -- one more stands
-  pub stands_more : AreStanding old → IsRising is_not_ahead new → Has x.under x.members → AllByRecursion IsApart old → AreStanding new
+  stands_more : AreStanding old → IsRising is_not_ahead new → Has x.under x.members → AllByRecursion IsApart old → AreStanding new
   stands_more s r h a = record { rising = r; among = all_put (λ c. Has c.under c.members) h s.among; turns = apart_put a s.turns }
 
   -- one that has the last turn is the last
@@ -105,9 +105,6 @@ module _ (p : Component → Bool) where
 -- ---- what is left
 
 module _ (below : List ℕ) where
-  pub left_itself : (cs : List Component) → AreStanding cs → LeavesOpen below cs cs
-  left_itself cs s = record { left = refl; standing = s; before = λ n b. b; ended = λ c h e. h }
-
   pub left_on : (a b c : List Component) → LeavesOpen below a b → LeavesOpen below b c → LeavesOpen below a c
   left_on a b c h k = record {
     left = k.left ∙ h.left;
@@ -181,7 +178,7 @@ module _ (below : List ℕ) where
 
   -- ---- exactly those that are not over
 
-  pub open_left : (cs : List Component) → AreStanding cs → AllByRecursion (λ c. is_ended below c.under ≡ false) cs → AllByRecursion (λ y. is_not_over below y ≡ true) (by_turn cs)
+  open_left : (cs : List Component) → AreStanding cs → AllByRecursion (λ c. is_ended below c.under ≡ false) cs → AllByRecursion (λ y. is_not_over below y ≡ true) (by_turn cs)
   open_left cs s n = turned_all (λ y. is_not_over below y ≡ true) cs (has_all (λ (c : Component). is_not_over below (turned_component c) ≡ true) cs (λ c has.
       go c (all_has (λ (c : Component). Has c.under c.members) c cs s.among has) (all_has (λ (c : Component). is_ended below c.under ≡ false) c cs n has) (is_over below c.members) refl))
     where

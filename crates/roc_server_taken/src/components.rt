@@ -32,7 +32,7 @@ fn count_before(components: &[Component], id: TxnId) -> usize
 }
 
 // Puts one into its place, where there is room for it.
-pub(crate) fn put(components: &mut Vec<Component>, component: Component)
+fn put(components: &mut Vec<Component>, component: Component)
     requires rising { IsRising is_not_ahead components.old.items }
     requires room { vec_len components.old < vec_capacity components.old }
     ensures put { IsPutBetween component components.old.items components.new.items }
