@@ -1,5 +1,5 @@
 -- What known lists name and is unknown, not here and not asked for
-use Rattle.std.proofs.Common.{◌≡◌, Bool, true, false, not, ◌&&◌, List, ◌++◌, filter, refl, sym, ap, subst, ◌∙◌}
+use Rattle.std.proofs.Common.{◌≡◌, Bool, true, false, not, ◌&&◌, List, ◌++◌, map, filter, refl, sym, ap, subst, ◌∙◌}
 use Rattle.std.proofs.lemmas.Bool.{and_parts}
 use Rattle.std.proofs.lemmas.Grind.{flat_map-append}
 use Rattle.std.specs.List.{AllByRecursion}
@@ -21,7 +21,10 @@ use Rattle.roc_step.proofs.Skipped.{left_still, left_by_third, passed, all_skipp
 use Rattle.roc_step.specs.Links.{all_entries}
 use Rattle.roc_step.specs.State.{is_here}
 use Rattle.roc_server_lists.specs.ListsNow.{is_missing_at}
-use Rattle.roc_server_lists.specs.Inner.Finding.{missing_at}
+
+-- what is missing of what is followed, as it is asked for
+abbrev pub missing_at : List StartedGroup → (known links : List KnownList) → (asked : List OpenFetch) → List OpenFetch
+missing_at started known links asked = map (asked_of known) (filter (is_missing_at started links asked) (united (all_entries links)))
 
 module _ (started : List StartedGroup) (asked : List OpenFetch) where
   -- that an entry's transaction is missing is a test of that transaction

@@ -26,12 +26,12 @@ use Rattle.roc_step.proofs.WithoutLinks.{entries_left, united_left}
 use Rattle.roc_server_groups.proofs.IndexSteps.{filter_both}
 use Rattle.roc_server_lists.specs.declared.parts.ListParts.{ListParts}
 use Rattle.roc_server_lists.specs.ListsNow.{is_missing_at, IsNoneLeft}
-use Rattle.roc_server_lists.specs.Inner.Finding.{asked_by, is_done_at, links_at, missing_at}
+use Rattle.roc_server_lists.specs.Inner.Finding.{asked_by, is_done_at, links_at}
 use Rattle.roc_server_lists.specs.Inner.Parts.{kept_in, AreRightParts}
 use Rattle.roc_server_lists.proofs.AlikeTests.{filter_alike, map_alike}
 use Rattle.roc_server_news.proofs.FollowedLinks.{followed_among_all}
 use Rattle.roc_server_news.proofs.Learning.{keeps_front}
-use Rattle.roc_server_lists.proofs.LeftOut.{missing_of_news}
+use Rattle.roc_server_lists.proofs.LeftOut.{missing_at, missing_of_news}
 
 module _ (shard : Shard) (started : List StartedGroup) (old : ListParts) (h : AreRightParts old) (left : IsNoneLeft started (kept_in old).lists) (news : List KnownList) where
   abbrev known : List KnownList

@@ -29,11 +29,11 @@ use Rattle.roc_server_lists.specs.declared.trial.Lesson.{Lesson}
 use Rattle.roc_server_lists.specs.declared.trial.Trial.TheVariants.{Lists}
 use Rattle.roc_server_lists.specs.ListsNow.{is_missing_at, lists_of, IsNoneLeft, IsTaught, KeptLists}
 use Rattle.roc_server_taken.specs.Components.{AreOver}
-use Rattle.roc_server_lists.specs.Inner.Finding.{asked_by, is_done_at, links_at, missing_at, AreAlike, AreIdsSame, FindsOfNews, Learns}
+use Rattle.roc_server_lists.specs.Inner.Finding.{asked_by, is_done_at, links_at, AreAlike, AreIdsSame, FindsOfNews, Learns}
 use Rattle.roc_server_lists.specs.Inner.Parts.{kept_in, AreConsistent}
 use Rattle.roc_server_lists.specs.Inner.Trials.{after, front, lists_forgetting, tried_of, unlearnt, with_lists, AreLearnt, AreListsTried, HasRoomToKeep}
 use Rattle.roc_server_news.proofs.FollowedLinks.{links_ids, links_learnable, links_learnt}
-use Rattle.roc_server_lists.proofs.LeftOut.{missing_unknown, none_after}
+use Rattle.roc_server_lists.proofs.LeftOut.{missing_at, missing_unknown, none_after}
 use Rattle.roc_server_lists.proofs.MissingSteps.{missing_is}
 use Rattle.roc_server_lists.proofs.NoneLeft.{left_forgetting}
 use Rattle.roc_server_lists.proofs.RoomAside.{alike_sound}

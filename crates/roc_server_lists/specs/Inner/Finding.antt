@@ -33,10 +33,6 @@ is_done_at shard started below known id = is_ended below id && (not (is_here id 
 abbrev pub links_at : Shard → List StartedGroup → ListParts → (news : List KnownList) → List KnownList
 links_at shard started k news = map (without_links (is_done_at shard started k.marks (k.table.known ++ news))) news
 
--- what is missing of what is followed, as it is asked for
-abbrev pub missing_at : List StartedGroup → (known links : List KnownList) → (asked : List OpenFetch) → List OpenFetch
-missing_at started known links asked = map (asked_of known) (filter (is_missing_at started links asked) (united (all_entries links)))
-
 -- entries of this transaction are done as they are learnt, where the shard of one is the least that new lists tell
 abbrev pub is_done_with : Shard → List StartedGroup → (below : List ℕ) → (known : List KnownList) → Dependency → Bool
 is_done_with shard started below known d =
