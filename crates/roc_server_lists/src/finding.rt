@@ -17,7 +17,7 @@ use roc_base::{NoMemory, TxnId};
 use roc_sequence::Sequence;
 use roc_server_groups::StartedGroups;
 use roc_server_table::ListTable;
-use roc_server_taken::{over_within, push_members};
+use roc_server_taken::{members_of, over_within};
 use std::alloc::Global;
 
 // Finds what comes of lists that were learnt last and name this, and what is over then, and takes the room for it.
@@ -56,8 +56,7 @@ fn find_all(
 {
     let asks = missing_from(alloc, parts, started, named.edges.as_slice(), &named.done)?;
     let components = find_taken(&mut parts.table)?;
-    let mut ids = Vec::new(alloc);
-    push_members(&components, &mut ids)?;
+    let ids = members_of(alloc, &components)?;
     let over = over_within(alloc, &parts.marks, &components)?;
     Ok((
         Found {

@@ -12,7 +12,7 @@ use crate::trial::Settling;
 use roc_base::{NoMemory, TxnId};
 use roc_sequence::Sequence;
 use roc_server_table::ListTable;
-use roc_server_taken::{Marks, over_among, push_members};
+use roc_server_taken::{Marks, members_of, over_among};
 use std::alloc::Global;
 
 // Finds what comes of a settled transaction.
@@ -29,8 +29,7 @@ pub(crate) fn find_settled(
     let settled = if_ended(alloc, &marks, id)?;
     let is_known = parts.table.list(id).is_some();
     let components = find_taken_without(&mut parts.table, &settled)?;
-    let mut ids = Vec::new(alloc);
-    push_members(&components, &mut ids)?;
+    let ids = members_of(alloc, &components)?;
     let over = over_among(alloc, &marks, &parts.taken, &components)?;
     Ok(Settling {
         marks,

@@ -12,4 +12,4 @@ mod marks;
 mod taken;
 
 pub use marks::Marks;
-pub use taken::{Taken, over_among, over_counted, over_within, push_members};
+pub use taken::{Taken, members_of, over_among, over_counted, over_within};

@@ -167,12 +167,13 @@ pub fn over_counted<L: Ledger>(
     rising(alloc, &ids)
 }
 
-/// Adds the transactions of all of these components.
-pub fn push_members(components: &[Sequence<TxnId>], ids: &mut Vec<TxnId>) -> Result<(), NoMemory>
-    ensures { OnOk result (ids.new.items ≡ ids.old.items ++ flat_map (λ c. c) components.now) }
+/// The transactions of these components, one after another.
+pub fn members_of(alloc: Global, components: &[Sequence<TxnId>]) -> Result<Vec<TxnId>, NoMemory>
+    ensures { IfOk result (λ ids. ids.items ≡ flat_map (λ c. c) components.now) }
 {
+    let mut ids = Vec::new(alloc);
     for component in components {
         ids.extend_from_slice(component.as_slice())?;
     }
-    Ok(())
+    Ok(ids)
 }

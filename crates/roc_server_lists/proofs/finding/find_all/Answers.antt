@@ -12,10 +12,6 @@ use Rattle.roc_server_taken.specs.Components.{AreOver}
 use Rattle.roc_server_lists.specs.Inner.Finding.{asked_by}
 use Rattle.roc_server_lists.proofs.finding.find_all.Goals as goal
 
--- all of the members were put behind none
-listed_are : {none all : List TxnId} {components lent : List (List TxnId)} → none ≡ [] → all ≡ none ++ flat_map (λ c. c) lent → lent ≡ components → all ≡ flat_map (λ c. c) components
-listed_are n e l = e ∙ (λ i. n i ++ flat_map (λ c. c) (l i))
-
 -- where none that was taken is over, what is over is so of those that come
 over_more : (marks : List ℕ) (taken lent components : List (List TxnId)) (ids : List TxnId) → over marks taken ≡ [] → lent ≡ components → AreOver marks lent ids
     → AreOver marks (taken ++ components) ids
@@ -37,5 +33,5 @@ returns-clause-finds c =
           ∙ (λ i. map (asked_by k.marks k.table.known)
           (filter (λ d. not (is_listed is_txn (c.deref.ensures.value i) d.from) && is_missing_at c.args.started.now.groups k.table.links k.waits.waiting.asked d) (c.as_slice.ensures.entries i)));
       chosen = c.in_ok-components.ensures.taken;
-      ids = listed_are c.new-ids.ensures.items c.in_ok-push_members.ensures c.deref-2.ensures.value;
+      ids = c.in_ok-ids.ensures ∙ (λ i. flat_map (λ m. m) (c.deref-2.ensures.value i));
     }

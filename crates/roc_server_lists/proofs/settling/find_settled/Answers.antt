@@ -21,7 +21,7 @@ returns-clause-found c =
       chosen =
           subst (λ (ids : List TxnId). AreNewTaken (IsListed is_txn k.table.decided) (links_settled k.table.links ids) c.in_ok-components.components.items)
           c.deref.ensures.value c.in_ok-components.ensures.taken;
-      ids = c.in_ok-push_members.ensures ∙ (λ i. c.new-ids.ensures.items i ++ flat_map (λ x. x) (c.deref-2.ensures.value i));
+      ids = c.in_ok-ids.ensures ∙ (λ i. flat_map (λ m. m) (c.deref-2.ensures.value i));
       over =
           subst (λ cs. AreOver c.raised-marks.result (k.taken.components ++ cs) c.in_ok-over.over.items) c.deref-3.ensures.value c.in_ok-over.ensures;
     }
