@@ -76,7 +76,7 @@ module _ (was : ListParts) (gone : List TxnId) (o : IsOverOf was gone) where
   were_listed t e = over_decided t (listed_true is_txn gone t e)
 
   were_decided : (t : TxnId) → forgotten t ≡ true → IsDecided was.table.links t
-  were_decided t e = right.decided_only t (were_listed t e)
+  were_decided t e = right.decided.sound t (were_listed t e)
 
   were_ended : (t : TxnId) → forgotten t ≡ true → is_ended was.marks t ≡ true
   were_ended t e = let c = in_over t e in every_has (is_ended was.marks) c.0 c.3 t c.2
@@ -126,12 +126,12 @@ module _ (was : ListParts) (gone : List TxnId) (o : IsOverOf was gone) where
     still_decided : (t : TxnId) → IsListed is_txn table.decided t → IsDecided table.links t
     still_decided t l =
         let p = decided_are.sound t l in
-        subst (λ ks. IsDecided ks t) (sym links_are) (decided_left forgotten was.table.links t (right.decided_only t p.0) p.1)
+        subst (λ ks. IsDecided ks t) (sym links_are) (decided_left forgotten was.table.links t (right.decided.sound t p.0) p.1)
 
     decided_still : (t : TxnId) → IsDecided table.links t → IsListed is_txn table.decided t
     decided_still t d =
         let p = left_decided forgotten was.table.links were_decided t (subst (λ ks. IsDecided ks t) links_are d) in
-        decided_are.complete t (right.decided_all t p.0, p.1)
+        decided_are.complete t (right.decided.complete t p.0, p.1)
 
     asked_are : waits.waiting.asked ≡ some_asked
     asked_are = ap (λ (w : Waiting). w.asked) waiting_is
@@ -159,9 +159,7 @@ module _ (was : ListParts) (gone : List TxnId) (o : IsOverOf was gone) where
 
     right_now : AreRightParts new
     right_now = record {
-      decided_rising = decided_are.rising;
-      decided_only = still_decided;
-      decided_all = decided_still;
+      decided = record { rising = decided_are.rising; sound = still_decided; complete = decided_still };
       open_unknown = fetches_are ∙ open_now ∙ (λ i. filter (unknown (sym links_are i)) (sym asked_are i));
       linked = linked_now;
       taken_decided = λ t l. let p = open_members t l in decided_are.complete t (right.taken_decided t p.0, p.1);

@@ -126,14 +126,16 @@ module _ (k new : ListParts) (l : Lesson) (p : AreListsTried k l) (n : KeepsFoun
       let Decided : (t : TxnId) → List KnownList → Type 0 = λ t k. IsDecided k t in
       let Members : List (List TxnId) → TxnId → Type 0 = λ cs t. IsListed is_txn (flat_map (λ c. c) cs) t in
       record {
-        decided_rising = n.decided.rising;
-        decided_only = λ t l.
-            subst (Decided t) links_is
-            (elim (decided_is t (n.decided.sound t l)) [ inl a ↦ stays t (sound.decided_only t a) | inr a ↦ (chosen.members.only t a).0 ]);
-        decided_all = λ t d.
-            let now = subst (Decided t) (sym links_is) d in
-            n.decided.complete t
-            (is_decided t (elim (listed_or_not is_txn was.table.decided t) [ inl a ↦ inl a | inr a ↦ inr (chosen.members.all t (now, a)) ]));
+        decided = record {
+          rising = n.decided.rising;
+          sound = λ t l.
+              subst (Decided t) links_is
+              (elim (decided_is t (n.decided.sound t l)) [ inl a ↦ stays t (sound.decided.sound t a) | inr a ↦ (chosen.members.only t a).0 ]);
+          complete = λ t d.
+              let now = subst (Decided t) (sym links_is) d in
+              n.decided.complete t
+              (is_decided t (elim (listed_or_not is_txn was.table.decided t) [ inl a ↦ inl a | inr a ↦ inr (chosen.members.all t (now, a)) ]));
+        };
         open_unknown = open_now;
         linked = linked_now;
         taken_decided = λ t l.

@@ -26,9 +26,11 @@ nothing_sound k known links decided waiting open_none taken =
     let none_twice : NoneTwice is_txn [] = tt in
     record {
       right = record {
-        decided_rising = subst (IsStrictlySortedBy txn_cmp) (sym decided) none_rise;
-        decided_only = λ t l. absurd (unlisted_none t (subst (λ (ids : List TxnId). IsListed is_txn ids t) decided l));
-        decided_all = λ t d. absurd (none_decided t (subst (λ (ks : List KnownList). IsDecided ks t) links d));
+        decided = record {
+          rising = subst (IsStrictlySortedBy txn_cmp) (sym decided) none_rise;
+          sound = λ t l. absurd (unlisted_none t (subst (λ (ids : List TxnId). IsListed is_txn ids t) decided l));
+          complete = λ t d. absurd (none_decided t (subst (λ (ks : List KnownList). IsDecided ks t) links d));
+        };
         open_unknown = open_none ∙ sym (ap (λ (w : Waiting). filter (λ a. not (is_known k.table.links a.id)) w.asked) waiting);
         linked = subst (λ ks. AreLinksOf (is_ended k.marks) ks k.table.links) (sym known) (subst (AreLinksOf (is_ended k.marks) []) (sym links) tt);
         taken_decided = λ t l. absurd (unlisted_none t (subst (λ cs. Members cs t) taken l));

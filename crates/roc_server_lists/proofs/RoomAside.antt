@@ -1,17 +1,16 @@
 -- Lists that are kept the same, room aside
 use Rattle.std.proofs.Common.{◌≡◌, ◌++◌, ◌∙◌, ℕ, List, not, filter, sym, ap, subst}
 use Rattle.std.specs.List.{flat_map}
-use Rattle.std.specs.List.Sorted.{IsStrictlySortedBy}
 use Rattle.roc_sequence.specs.Lists.{Has}
 use Rattle.roc_sequence.specs.Places.{IsListed, NoneTwice}
 use Rattle.roc_base.specs.declared.id.TxnId.{TxnId}
-use Rattle.roc_base.specs.TxnId.{is_txn, txn_cmp}
-use Rattle.roc_depgraph.specs.Deps.{is_known, IsDecided}
+use Rattle.roc_base.specs.TxnId.{is_txn}
+use Rattle.roc_depgraph.specs.Deps.{is_known}
 use Rattle.roc_step.specs.declared.waits.OpenFetch.{OpenFetch}
 use Rattle.roc_step.specs.Below.{is_ended, raised}
 use Rattle.roc_step.specs.Forgets.{over}
 use Rattle.roc_step.specs.Links.{AreLinksOf}
-use Rattle.roc_step.specs.New.{AreNewTaken}
+use Rattle.roc_step.specs.New.{AreDecided, AreNewTaken}
 use Rattle.roc_server_table.specs.Kept.{TableLists}
 use Rattle.roc_server_lists.specs.declared.parts.ListParts.{ListParts}
 use Rattle.roc_server_lists.specs.declared.trial.Settling.{Settling}
@@ -32,9 +31,7 @@ module _ (old new : ListParts) (p : AreAlike old new) where
   alike_right h =
       let Members : List (List TxnId) → TxnId → Type 0 = λ cs t. IsListed is_txn (flat_map (λ c. c) cs) t in
       record {
-        decided_rising = subst (λ (t : TableLists). IsStrictlySortedBy txn_cmp t.decided) (sym p.table) h.decided_rising;
-        decided_only = subst (λ (t : TableLists). (u : TxnId) → IsListed is_txn t.decided u → IsDecided t.links u) (sym p.table) h.decided_only;
-        decided_all = subst (λ (t : TableLists). (u : TxnId) → IsDecided t.links u → IsListed is_txn t.decided u) (sym p.table) h.decided_all;
+        decided = subst (λ (t : TableLists). AreDecided t.links t.decided) (sym p.table) h.decided;
         open_unknown = p.fetches ∙ h.open_unknown ∙ (λ i. filter (λ (a : OpenFetch). not (is_known (sym p.table i).links a.id)) (sym p.waiting i).asked);
         linked =
             subst (λ marks. AreLinksOf (is_ended marks) new.table.known new.table.links) (sym p.marks)

@@ -38,9 +38,7 @@ use Rattle.roc_server_lists.proofs.SomeLeft.{members}
 -- by higher watermarks what is kept is right, too
 marks_right : (k : ListParts) (marks : List ℕ) → ((t : TxnId) → is_ended k.marks t ≡ true → is_ended marks t ≡ true) → AreRightParts k → AreRightParts (record k { marks = marks })
 marks_right k marks risen right = record {
-  decided_rising = right.decided_rising;
-  decided_only = right.decided_only;
-  decided_all = right.decided_all;
+  decided = right.decided;
   open_unknown = right.open_unknown;
   linked = links_later (is_ended k.marks) (is_ended marks) risen k.table.known k.table.links right.linked;
   taken_decided = right.taken_decided;
@@ -120,7 +118,7 @@ module _ (k : ListParts) (s : Settling) (p : IsSettledTried k s) where
 
     after_decided : (t : TxnId) → IsListed is_txn after t → IsDecided links t
     after_decided t l = elim (was_or_new t l) [
-      | inl a ↦ still_decided done k.table.links t (sound.decided_only t a)
+      | inl a ↦ still_decided done k.table.links t (sound.decided.sound t a)
       | inr a ↦ (chosen.members.only t a).0
     ]
 
@@ -194,9 +192,7 @@ module _ (k : ListParts) (s : Settling) (p : IsSettledTried k s) where
         let Members : List (List TxnId) → TxnId → Type 0 = λ cs t. IsListed is_txn (flat_map (λ c. c) cs) t in
         let now : List TxnId = table.decided in
         record {
-          decided_rising = rising.rising;
-          decided_only = after_decided now rising;
-          decided_all = decided_after now rising;
+          decided = record { rising = rising.rising; sound = after_decided now rising; complete = decided_after now rising };
           open_unknown = open_now;
           linked =
               links_marked (is_ended s.marks) done done_ended k.table.known k.table.links

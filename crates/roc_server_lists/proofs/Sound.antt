@@ -44,13 +44,10 @@ record Later (links : List KnownList) (before new forgotten : List TxnId) : Type
   are : AreDecided links later
   behind : AreDecidedBehind before new forgotten later
 
-are_decided : (k : ListParts) → AreRightParts k → AreDecided k.table.links k.table.decided
-are_decided k right = record { rising = right.decided_rising; sound = right.decided_only; complete = right.decided_all }
-
 same_later : (k : ListParts) → AreRightParts k → Later k.table.links k.table.decided [] []
 same_later k right = record {
   later = k.table.decided;
-  are = are_decided k right;
+  are = right.decided;
   behind = record { is = λ t. alone (is_listed is_txn k.table.decided t); gone = λ t l. absurd (none_listed t l) };
 }
   where
@@ -156,7 +153,7 @@ module _ (k : ListParts) (l : Lesson) (p : AreListsTried k l) where
   lists_before : (t : TxnId) → IsListed is_txn k.table.decided t → IsDecided k.table.links t
   lists_before t a =
       subst (λ ks. IsDecided ks t) (sym (p.learnt.links.links_are ∙ ap (λ ks. ks ++ p.learnt.links.linked) p.links_before))
-      (decided_stays was.table.links (was.table.links ++ p.learnt.links.linked) (keeps_front was.table.links p.learnt.links.linked) t (p.sound.right.decided_only t a))
+      (decided_stays was.table.links (was.table.links ++ p.learnt.links.linked) (keeps_front was.table.links p.learnt.links.linked) t (p.sound.right.decided.sound t a))
 
   lists_new : (t : TxnId) → IsListed is_txn l.found.ids.items t → IsDecided k.table.links t
   lists_new t a = (p.chosen.members.only t (subst (λ ts. IsListed is_txn ts t) p.ids a)).0
@@ -183,7 +180,7 @@ module _ (k : ListParts) (s : Settling) (p : IsSettledTried k s) where
   settled = links_settled k.table.links s.settled.items
 
   settled_before : (t : TxnId) → IsListed is_txn k.table.decided t → IsDecided settled t
-  settled_before t a = still_decided (is_listed is_txn s.settled.items) k.table.links t (p.sound.right.decided_only t a)
+  settled_before t a = still_decided (is_listed is_txn s.settled.items) k.table.links t (p.sound.right.decided.sound t a)
 
   settled_new : (t : TxnId) → IsListed is_txn s.ids.items t → IsDecided settled t
   settled_new t a = (p.found.chosen.members.only t (subst (λ ts. IsListed is_txn ts t) p.found.ids a)).0
@@ -208,7 +205,7 @@ module _ (k : ListParts) (s : Settling) (p : IsSettledTried k s) where
 marks_later : (k : ListParts) (m : Heard) → AreMarksTried k m → Later (links_left k.table.links (over m.marks k.taken.components)) k.table.decided [] m.over.items
 marks_later k m p =
     let right = p.sound.right in
-    forgotten_later k.table.decided [] k.table.links m.marks k.taken.components right.decided_only (λ t a. absurd (none_listed t a)) (λ t d. inl (right.decided_all t d))
+    forgotten_later k.table.decided [] k.table.links m.marks k.taken.components right.decided.sound (λ t a. absurd (none_listed t a)) (λ t d. inl (right.decided.complete t d))
     (λ t a. inl (right.taken_decided t a)) m.over.items p.over
 
 -- ---- whatever is tried
@@ -217,14 +214,14 @@ ids_right : (k : ListParts) → AreRightParts k → map (λ (l : KnownList). l.o
 ids_right k right = links_ids (is_ended k.marks) k.table.known k.table.links right.linked
 
 pub sound_of : (k : ListParts) (trial : Option Trial) → AreHeld k trial → AreSound (lists_now k trial)
-sound_of k None h = let l = same_later k h.right in record { same_ids = ids_right k h.right; decided = are_decided k h.right; later = l.later; are_later = l.are; behind = l.behind; over = none_rise }
-sound_of k (Some (Asker asker)) h = let l = same_later k h.0.right in record { same_ids = ids_right k h.0.right; decided = are_decided k h.0.right; later = l.later; are_later = l.are; behind = l.behind; over = none_rise }
+sound_of k None h = let l = same_later k h.right in record { same_ids = ids_right k h.right; decided = h.right.decided; later = l.later; are_later = l.are; behind = l.behind; over = none_rise }
+sound_of k (Some (Asker asker)) h = let l = same_later k h.0.right in record { same_ids = ids_right k h.0.right; decided = h.0.right.decided; later = l.later; are_later = l.are; behind = l.behind; over = none_rise }
 sound_of k (Some (Lists t)) h =
     let l = lists_later k t h in
-    record { same_ids = ids_right (unlearnt k t) h.sound.right; decided = are_decided (unlearnt k t) h.sound.right; later = l.later; are_later = l.are; behind = l.behind; over = h.over.rising }
+    record { same_ids = ids_right (unlearnt k t) h.sound.right; decided = h.sound.right.decided; later = l.later; are_later = l.are; behind = l.behind; over = h.over.rising }
 sound_of k (Some (Marks m)) h =
     let l = marks_later k m h in
-    record { same_ids = ids_right k h.sound.right; decided = are_decided k h.sound.right; later = l.later; are_later = l.are; behind = l.behind; over = h.over.rising }
+    record { same_ids = ids_right k h.sound.right; decided = h.sound.right.decided; later = l.later; are_later = l.are; behind = l.behind; over = h.over.rising }
 sound_of k (Some (Settled s)) h =
     let l = settled_later k s h in
-    record { same_ids = ids_right k h.sound.right; decided = are_decided k h.sound.right; later = l.later; are_later = l.are; behind = l.behind; over = h.found.over.rising }
+    record { same_ids = ids_right k h.sound.right; decided = h.sound.right.decided; later = l.later; are_later = l.are; behind = l.behind; over = h.found.over.rising }

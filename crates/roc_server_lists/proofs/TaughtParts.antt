@@ -114,7 +114,7 @@ module _ (shard : Shard) (started : List StartedGroup) (old mid : ListParts) (ne
       pub none_learnt : (n : KnownList) → Has n items → is_listed is_txn new.table.decided n.of ≡ false
       none_learnt n has =
           ap (λ ids. is_listed is_txn ids n.of) decided_is
-          ∙ none_decided old.table.decided old.table.links linked news sound.right.decided_only ids_are linked_learnable n (subst (Has n) same has)
+          ∙ none_decided old.table.decided old.table.links linked news sound.right.decided.sound ids_are linked_learnable n (subst (Has n) same has)
 
       abbrev others_of : List KnownList → List KnownList
       others_of ks = filter (λ (k : KnownList). not (is_known items k.of)) ks

@@ -34,7 +34,7 @@ module _ (k : ListParts) (l : Lesson) (p : AreListsTried k l) (news : List Known
   pub to_unlearn : (n : KnownList) → Has n news → is_listed is_txn k.table.decided n.of ≡ false
   to_unlearn n has =
       none_decided k.table.decided p.learnt.links.before p.learnt.links.linked l.news.items
-      (λ t d. subst (λ ks. IsDecided ks t) (sym p.links_before) (p.sound.right.decided_only t d)) p.learnt.links.of p.learnt.links.learnable n (subst (Has n) same has)
+      (λ t d. subst (λ ks. IsDecided ks t) (sym p.links_before) (p.sound.right.decided.sound t d)) p.learnt.links.of p.learnt.links.learnable n (subst (Has n) same has)
 
   -- those of other transactions than these
   abbrev others : List KnownList → List KnownList

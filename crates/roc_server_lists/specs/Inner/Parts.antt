@@ -1,15 +1,15 @@
 -- What the parts hold, as the definitions see it
 use Rattle.std.specs.Prelude.{◌≡◌, ◌≢◌, not, List, [], filter}
 use Rattle.std.specs.List.{flat_map}
-use Rattle.std.specs.List.Sorted.{IsStrictlySortedBy}
 use Rattle.roc_sequence.specs.Lists.{Has}
 use Rattle.roc_sequence.specs.Places.{IsListed, NoneTwice}
 use Rattle.roc_base.specs.declared.id.TxnId.{TxnId}
-use Rattle.roc_base.specs.TxnId.{is_txn, txn_cmp}
-use Rattle.roc_depgraph.specs.Deps.{is_known, IsDecided}
+use Rattle.roc_base.specs.TxnId.{is_txn}
+use Rattle.roc_depgraph.specs.Deps.{is_known}
 use Rattle.roc_step.specs.Below.{is_ended}
 use Rattle.roc_step.specs.Forgets.{over}
 use Rattle.roc_step.specs.Links.{AreLinksOf}
+use Rattle.roc_step.specs.New.{AreDecided}
 use Rattle.roc_server_lists.specs.declared.parts.ListParts.{ListParts}
 use Rattle.roc_server_lists.specs.ListsNow.{KeptLists}
 
@@ -24,9 +24,7 @@ kept_in k =
 -- as decided exactly what is decided by what is followed, rising; as open exactly what was asked for and is not known; what is followed is of the known lists;
 -- and the components taken are of what is decided
 pub record AreRightParts (k : ListParts) : Type 0 where
-  pub decided_rising : IsStrictlySortedBy txn_cmp k.table.decided
-  pub decided_only : (t : TxnId) → IsListed is_txn k.table.decided t → IsDecided k.table.links t
-  pub decided_all : (t : TxnId) → IsDecided k.table.links t → IsListed is_txn k.table.decided t
+  pub decided : AreDecided k.table.links k.table.decided
   pub open_unknown : k.waits.fetches ≡ filter (λ a. not (is_known k.table.links a.id)) k.waits.waiting.asked
   pub linked : AreLinksOf (is_ended k.marks) k.table.known k.table.links
   pub taken_decided : (t : TxnId) → IsListed is_txn (flat_map (λ c. c) k.taken.components) t → IsListed is_txn k.table.decided t
