@@ -30,16 +30,7 @@ use Rattle.roc_server_lists.specs.Inner.Trials.{unlearnt, with_lists, AreListsTr
 use Rattle.roc_server_news.proofs.Learning.{keeps_front}
 use Rattle.roc_server_news.proofs.NotOfNews.{unknown_not_of}
 use Rattle.roc_server_lists.proofs.AlikeTests.{filter_alike}
-
--- what is listed among components, old and new
-pub among_more : (old more : List (List TxnId)) (t : TxnId) → IsListed is_txn (flat_map (λ c. c) (old ++ more)) t → IsListed is_txn (flat_map (λ c. c) old) t ⊎ IsListed is_txn (flat_map (λ c. c) more) t
-among_more old more t l =
-    elim (listed_either is_txn (flat_map (λ c. c) old) (flat_map (λ c. c) more) t (subst (λ ts. IsListed is_txn ts t) (flat_map-append (λ c. c) old more) l)) [ inl k ↦ inl k | inr k ↦ inr k.1 ]
-
-pub more_among : (old more : List (List TxnId)) (t : TxnId) → IsListed is_txn (flat_map (λ c. c) old) t ⊎ IsListed is_txn (flat_map (λ c. c) more) t → IsListed is_txn (flat_map (λ c. c) (old ++ more)) t
-more_among old more t l =
-    subst (λ ts. IsListed is_txn ts t) (sym (flat_map-append (λ c. c) old more))
-    (elim l [ inl k ↦ listed_front is_txn (flat_map (λ c. c) old) (flat_map (λ c. c) more) t k | inr k ↦ listed_behind is_txn (flat_map (λ c. c) old) (flat_map (λ c. c) more) t k ])
+use Rattle.roc_server_lists.proofs.SomeLeft.{among_more, more_among}
 
 -- components that are newly decided stand beside those that were taken
 pub once_more : (old more : List (List TxnId)) (decided : List TxnId) (links : List KnownList) → NoneTwice is_txn (flat_map (λ c. c) old) → ((t : TxnId) → IsListed is_txn (flat_map (λ c. c) old) t → IsListed is_txn decided t)

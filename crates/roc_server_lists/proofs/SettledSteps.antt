@@ -28,10 +28,10 @@ use Rattle.roc_server_lists.specs.Inner.Keeping.{IsOverOf}
 use Rattle.roc_server_lists.specs.Inner.Parts.{kept_in, AreRightParts}
 use Rattle.roc_server_lists.specs.Inner.Trials.{links_settled, with_settled, AreMarksTried, IsSettledTried}
 use Rattle.roc_server_news.proofs.FollowedLinks.{links_later, links_marked}
-use Rattle.roc_server_lists.proofs.LessonSteps.{among_more, more_among, once_more, some_more}
+use Rattle.roc_server_lists.proofs.LessonSteps.{once_more, some_more}
 use Rattle.roc_server_lists.proofs.MarkedLinks.{marked_known, still_decided}
 use Rattle.roc_server_lists.proofs.OneSettled as one
-use Rattle.roc_server_lists.proofs.SomeLeft.{members}
+use Rattle.roc_server_lists.proofs.SomeLeft.{among_more, members, more_among}
 
 -- ---- watermarks
 

@@ -1,10 +1,11 @@
 -- What a test leaves of lists, and of components that have no member twice
-use Rattle.std.proofs.Common.{◌≡◌, ◌++◌, Bool, true, false, cond, not, List, [], ◌∷◌, filter, refl, sym, ap, subst, ◌∙◌, inl, inr}
+use Rattle.std.proofs.Common.{◌≡◌, ◌++◌, Bool, true, false, cond, not, List, [], ◌∷◌, filter, refl, sym, ap, subst, ◌∙◌, ◌⊎◌, inl, inr}
 use Rattle.std.proofs.lemmas.Bool.{false≢true, not_from_false}
+use Rattle.std.proofs.lemmas.Grind.{flat_map-append}
 use Rattle.std.specs.List.{flat_map, list_any}
 use Rattle.roc_sequence.specs.Lists.{Has}
 use Rattle.roc_sequence.specs.Places.{IsListed, NoneTwice}
-use Rattle.roc_sequence.proofs.Appended.{NoneTwice-append}
+use Rattle.roc_sequence.proofs.Appended.{listed_behind, listed_either, listed_front, NoneTwice-append}
 use Rattle.roc_sequence.proofs.Holds.{any_has, has_any, same_tests}
 use Rattle.roc_sequence.proofs.Members.{from_has_filter, from_has_flat_map, has_filter, has_flat_map, has_left}
 use Rattle.roc_base.specs.declared.id.TxnId.{TxnId}
@@ -45,6 +46,16 @@ any_some {A = A} id_of forgotten t n xs = same_tests (list_any is (filter stays 
 
 abbrev pub members : List (List TxnId) → List TxnId
 members cs = flat_map (λ c. c) cs
+
+-- what is listed among components, old and new
+pub among_more : (old more : List (List TxnId)) (t : TxnId) → IsListed is_txn (members (old ++ more)) t → IsListed is_txn (members old) t ⊎ IsListed is_txn (members more) t
+among_more old more t l =
+    elim (listed_either is_txn (members old) (members more) t (subst (λ ts. IsListed is_txn ts t) (flat_map-append (λ c. c) old more) l)) [ inl k ↦ inl k | inr k ↦ inr k.1 ]
+
+pub more_among : (old more : List (List TxnId)) (t : TxnId) → IsListed is_txn (members old) t ⊎ IsListed is_txn (members more) t → IsListed is_txn (members (old ++ more)) t
+more_among old more t l =
+    subst (λ ts. IsListed is_txn ts t) (sym (flat_map-append (λ c. c) old more))
+    (elim l [ inl k ↦ listed_front is_txn (members old) (members more) t k | inr k ↦ listed_behind is_txn (members old) (members more) t k ])
 
 module _ (p : List TxnId → Bool) where
   -- one that has a member is one of two by the test

@@ -1,7 +1,6 @@
 -- What is decided, before a step and behind it
 use Rattle.std.proofs.Common.{◌≡◌, ◌++◌, ◌&&◌, ◌||◌, ◌⊎◌, inl, inr, ℕ, Bool, true, false, not, List, [], filter, map, Option, Some, None, refl, sym, ap, subst, ◌∙◌}
 use Rattle.std.proofs.lemmas.Bool.{and_from, and_parts, not-true, not_from_false, or_cases, or_left, or_right}
-use Rattle.std.proofs.lemmas.Grind.{flat_map-append}
 use Rattle.roc_sequence.specs.Places.{is_listed, IsListed}
 use Rattle.roc_sequence.proofs.Appended.{listed_behind, listed_either, listed_front}
 use Rattle.roc_sequence.proofs.Holds.{same_tests}
@@ -34,7 +33,7 @@ use Rattle.roc_server_news.proofs.FollowedLinks.{links_ids}
 use Rattle.roc_server_news.proofs.Learning.{keeps_front}
 use Rattle.roc_server_lists.proofs.LeftSteps.{left_decide, links_left}
 use Rattle.roc_server_lists.proofs.MarkedLinks.{still_decided}
-use Rattle.roc_server_lists.proofs.SomeLeft.{member_all, members}
+use Rattle.roc_server_lists.proofs.SomeLeft.{among_more, member_all, members}
 
 -- ---- where nothing is newly decided and nothing forgotten
 
@@ -139,11 +138,6 @@ module _ (before new : List TxnId) (links : List KnownList) (marks : List ℕ) (
   forgotten_later : Later (links_left links gone) before new ids
   forgotten_later = left_behind rising_left.0 rising_left.1
 
--- what is listed among components, old and new
-among_both : (old more : List (List TxnId)) (t : TxnId) → IsListed is_txn (members (old ++ more)) t → IsListed is_txn (members old) t ⊎ IsListed is_txn (members more) t
-among_both old more t l =
-    elim (listed_either is_txn (members old) (members more) t (subst (λ ts. IsListed is_txn ts t) (flat_map-append (λ c. c) old more) l)) [ inl a ↦ inl a | inr a ↦ inr a.1 ]
-
 -- ---- lists that are taught
 
 module _ (k : ListParts) (l : Lesson) (p : AreListsTried k l) where
@@ -163,7 +157,7 @@ module _ (k : ListParts) (l : Lesson) (p : AreListsTried k l) where
 
   lists_taken : (t : TxnId) → IsListed is_txn (members (k.taken.components ++ l.found.components.items)) t → IsListed is_txn k.table.decided t ⊎ IsListed is_txn l.found.ids.items t
   lists_taken t m =
-      elim (among_both k.taken.components l.found.components.items t m) [
+      elim (among_more k.taken.components l.found.components.items t m) [
         | inl a ↦ inl (p.sound.right.taken_decided t a)
         | inr a ↦ inr (subst (λ ts. IsListed is_txn ts t) (sym p.ids) a)
       ]
@@ -190,7 +184,7 @@ module _ (k : ListParts) (s : Settling) (p : IsSettledTried k s) where
 
   settled_taken : (t : TxnId) → IsListed is_txn (members (k.taken.components ++ s.components.items)) t → IsListed is_txn k.table.decided t ⊎ IsListed is_txn s.ids.items t
   settled_taken t m =
-      elim (among_both k.taken.components s.components.items t m) [
+      elim (among_more k.taken.components s.components.items t m) [
         | inl a ↦ inl (p.sound.right.taken_decided t a)
         | inr a ↦ inr (subst (λ ts. IsListed is_txn ts t) (sym p.found.ids) a)
       ]
