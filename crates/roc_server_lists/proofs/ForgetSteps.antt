@@ -4,7 +4,7 @@ use Rattle.std.proofs.Math.Bool.{and_comm}
 use Rattle.std.proofs.lemmas.Bool.{false≢true, not-true, not_from_false}
 use Rattle.roc_sequence.specs.Lists.{Has}
 use Rattle.roc_sequence.specs.Places.{is_listed, IsListed, NoneTwice}
-use Rattle.roc_sequence.proofs.Holds.{every_has, same_tests}
+use Rattle.roc_sequence.proofs.Holds.{every_has}
 use Rattle.roc_sequence.proofs.Members.{from_has_filter, from_has_flat_map, has_flat_map}
 use Rattle.roc_sequence.proofs.Places.{listed_test, listed_true}
 use Rattle.roc_base.specs.declared.id.TxnId.{TxnId}
@@ -18,7 +18,7 @@ use Rattle.roc_depgraph.proofs.Listed.{has_listed, listed_has}
 use Rattle.roc_step.specs.Links.{without_links, AreLinksOf}
 use Rattle.roc_step.specs.Below.{is_ended}
 use Rattle.roc_step.specs.Forgets.{is_over, over}
-use Rattle.roc_step.proofs.ForgottenLinks.{decided_left, known_left, left_decided, left_known}
+use Rattle.roc_step.proofs.ForgottenLinks.{decided_left, left_decided}
 use Rattle.roc_server_table.specs.Kept.{TableLists}
 use Rattle.roc_server_groups.proofs.IndexSteps.{filter_both}
 use Rattle.roc_server_lists.specs.declared.parts.ListParts.{ListParts}
@@ -27,7 +27,8 @@ use Rattle.roc_server_taken.specs.Components.{TakenComponents}
 use Rattle.roc_server_lists.specs.Inner.Parts.{kept_in, AreConsistent, AreRightParts}
 use Rattle.roc_server_lists.specs.Inner.Trials.{lists_forgetting}
 use Rattle.roc_server_news.proofs.FollowedLinks.{links_left}
-use Rattle.roc_server_lists.proofs.SomeLeft.{members, member_all, member_some, members_once, none_of_others, not_in_two, some_member}
+use Rattle.roc_server_lists.proofs.LeftSteps.{still_known}
+use Rattle.roc_server_lists.proofs.SomeLeft.{members, member_all, member_some, members_once, none_of_others, not_in_two, rising_lists, some_member}
 
 module _ (was : ListParts) (gone : List TxnId) (o : IsOverOf was gone) where
   abbrev components : List (List TxnId)
@@ -49,10 +50,7 @@ module _ (was : ListParts) (gone : List TxnId) (o : IsOverOf was gone) where
   are = o.over
 
   is_forgotten : (t : TxnId) → forgotten t ≡ is_listed is_txn (over was.marks components) t
-  is_forgotten t =
-      same_tests (forgotten t) (is_listed is_txn (over was.marks components) t)
-      (λ e. listed_test is_txn (over was.marks components) t (are.sound t (listed_true is_txn gone t e)))
-      (λ e. listed_test is_txn gone t (are.complete t (listed_true is_txn (over was.marks components) t e)))
+  is_forgotten t = rising_lists (over was.marks components) gone are t
 
   -- exactly the members of components that are over are forgotten
   in_over : (t : TxnId) → forgotten t ≡ true → (c : List TxnId) × Has c components × Has t c × (passes c ≡ true)
@@ -87,12 +85,6 @@ module _ (was : ListParts) (gone : List TxnId) (o : IsOverOf was gone) where
   abbrev left_links : List KnownList
   left_links = map (without_links forgotten) (filter (λ k. stays k.of) was.table.links)
 
-  same_known : (t : TxnId) → forgotten t ≡ false → is_known left_links t ≡ is_known was.table.links t
-  same_known t n =
-      same_tests (is_known left_links t) (is_known was.table.links t)
-      (λ e. (known_left forgotten was.table.links t e).0)
-      (λ e. left_known forgotten was.table.links t e n)
-
   -- what is open of what is left is what was asked for and is unknown
   abbrev unknown : List KnownList → OpenFetch → Bool
   unknown ks a = not (is_known ks a.id)
@@ -111,7 +103,7 @@ module _ (was : ListParts) (gone : List TxnId) (o : IsOverOf was gone) where
     where
       alike : (a : OpenFetch) (b : Bool) → forgotten a.id ≡ b → (not b && unknown left_links a) ≡ (not b && unknown was.table.links a)
       alike a true e = refl
-      alike a false e = ap not (same_known a.id e)
+      alike a false e = ap not (still_known was.table.links gone a.id e)
 
   -- ---- what is left is consistent
 

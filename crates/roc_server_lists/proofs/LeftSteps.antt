@@ -1,21 +1,29 @@
 -- What is left of lists once some of their transactions are forgotten
-use Rattle.std.proofs.Common.{◌≡◌, Bool, not, List, map, filter, sym, subst}
+use Rattle.std.proofs.Common.{◌≡◌, Bool, false, not, List, map, filter, sym, subst}
 use Rattle.std.proofs.lemmas.Bool.{not-true, not_from_false}
 use Rattle.roc_sequence.specs.Places.{is_listed, IsListed}
 use Rattle.roc_sequence.proofs.Filtered.{from_listed_filter, listed_filter}
+use Rattle.roc_sequence.proofs.Holds.{same_tests}
 use Rattle.roc_sequence.proofs.Places.{listed_true}
 use Rattle.roc_base.specs.declared.id.TxnId.{TxnId}
 use Rattle.roc_base.specs.TxnId.{is_txn}
 use Rattle.roc_base.specs.Equalities.{is_txn-true}
 use Rattle.roc_depgraph.specs.declared.known.KnownList.{KnownList}
 use Rattle.roc_depgraph.specs.Closure.{IsRisingListOf}
-use Rattle.roc_depgraph.specs.Deps.{IsDecided}
+use Rattle.roc_depgraph.specs.Deps.{is_known, IsDecided}
 use Rattle.roc_step.specs.Links.{without_links}
-use Rattle.roc_step.proofs.ForgottenLinks.{decided_left, left_decided}
+use Rattle.roc_step.proofs.ForgottenLinks.{decided_left, known_left, left_decided, left_known}
 
 -- what is followed of what stays
 abbrev pub links_left : (links : List KnownList) → (over : List TxnId) → List KnownList
 links_left links over = map (without_links (is_listed is_txn over)) (filter (λ k. not (is_listed is_txn over k.of)) links)
+
+-- of all others the lists are known as before
+pub still_known : (links : List KnownList) (over : List TxnId) (t : TxnId) → is_listed is_txn over t ≡ false → is_known (links_left links over) t ≡ is_known links t
+still_known links over t n =
+    same_tests (is_known (links_left links over) t) (is_known links t)
+    (λ e. (known_left (is_listed is_txn over) links t e).0)
+    (λ e. left_known (is_listed is_txn over) links t e n)
 
 module _ (links left : List KnownList) (over all : List TxnId) (left_is : left ≡ links_left links over) (decided : (t : TxnId) → IsListed is_txn all t → IsDecided links t) where
   abbrev forgotten : TxnId → Bool

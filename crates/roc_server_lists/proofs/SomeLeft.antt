@@ -4,14 +4,16 @@ use Rattle.std.proofs.lemmas.Bool.{false≢true, not_from_false}
 use Rattle.std.proofs.lemmas.Grind.{flat_map-append}
 use Rattle.std.specs.List.{flat_map, list_any}
 use Rattle.roc_sequence.specs.Lists.{Has}
-use Rattle.roc_sequence.specs.Places.{IsListed, NoneTwice}
+use Rattle.roc_sequence.specs.Places.{is_listed, IsListed, NoneTwice}
 use Rattle.roc_sequence.proofs.Appended.{listed_behind, listed_either, listed_front, NoneTwice-append}
 use Rattle.roc_sequence.proofs.Holds.{any_has, has_any, same_tests}
 use Rattle.roc_sequence.proofs.Members.{from_has_filter, from_has_flat_map, has_filter, has_flat_map, has_left}
+use Rattle.roc_sequence.proofs.Places.{listed_test, listed_true}
 use Rattle.roc_base.specs.declared.id.TxnId.{TxnId}
 use Rattle.roc_base.specs.TxnId.{is_txn}
 use Rattle.roc_base.specs.Equalities.{is_txn-same, is_txn-true}
 use Rattle.roc_component.proofs.OneTaken.{none_behind, none_in_both}
+use Rattle.roc_depgraph.specs.Closure.{IsRisingListOf}
 use Rattle.roc_depgraph.proofs.Listed.{has_listed, listed_has}
 
 -- nothing passes a test that it did not pass
@@ -41,6 +43,13 @@ any_some {A = A} id_of forgotten t n xs = same_tests (list_any is (filter stays 
     there e =
         let x = any_has is xs e in
         has_any is (filter stays xs) x.0 (has_filter stays x.0 xs x.1 (not_from_false (forgotten (id_of x.0)) (ap forgotten (is_txn-true (id_of x.0) t x.2) ∙ n))) x.2
+
+-- a rising list of ids lists no others
+pub rising_lists : (all ids : List TxnId) → IsRisingListOf (IsListed is_txn all) ids → (t : TxnId) → is_listed is_txn ids t ≡ is_listed is_txn all t
+rising_lists all ids are t =
+    same_tests (is_listed is_txn ids t) (is_listed is_txn all t)
+    (λ e. listed_test is_txn all t (are.sound t (listed_true is_txn ids t e)))
+    (λ e. listed_test is_txn ids t (are.complete t (listed_true is_txn all t e)))
 
 -- ---- components
 

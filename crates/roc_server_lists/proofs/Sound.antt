@@ -33,7 +33,7 @@ use Rattle.roc_server_news.proofs.FollowedLinks.{links_ids}
 use Rattle.roc_server_news.proofs.Learning.{keeps_front}
 use Rattle.roc_server_lists.proofs.LeftSteps.{left_decide, links_left}
 use Rattle.roc_server_lists.proofs.MarkedLinks.{still_decided}
-use Rattle.roc_server_lists.proofs.SomeLeft.{among_more, member_all, members}
+use Rattle.roc_server_lists.proofs.SomeLeft.{among_more, member_all, members, rising_lists}
 
 -- ---- where nothing is newly decided and nothing forgotten
 
@@ -75,10 +75,7 @@ module _ (before new : List TxnId) (links : List KnownList) (marks : List ℕ) (
   are_gone t e = elim (gone_either t (listed_true is_txn gone t e)) [ inl a ↦ before_decided t a | inr a ↦ new_decided t a ]
 
   is_forgotten : (t : TxnId) → is_listed is_txn ids t ≡ forgotten t
-  is_forgotten t =
-      same_tests (is_listed is_txn ids t) (forgotten t)
-      (λ e. listed_test is_txn gone t (are_over.sound t (listed_true is_txn ids t e)))
-      (λ e. listed_test is_txn ids t (are_over.complete t (listed_true is_txn gone t e)))
+  is_forgotten t = rising_lists gone ids are_over t
 
   passes : (t : TxnId) → IsDecided links t → test t ≡ true
   passes t d =
