@@ -9,7 +9,7 @@ ghost use Rattle.roc_step.specs.Waits.{without_asked};
 ghost use Rattle.roc_server_lists.specs.declared.trial.Trial.TheVariants.{Asker as AskerComes, Lists as ListsCome, Marks as MarksRise, Settled as SettledComes};
 ghost use Rattle.roc_server_lists.specs.Inner.Keeping.{Forgets, IsOverOf, KeepsFound};
 ghost use Rattle.roc_server_lists.specs.Inner.Parts.{kept_in, AreConsistent};
-ghost use Rattle.roc_server_lists.specs.Inner.Trials.{after, before_trial, links_settled, lists_forgetting, unlearnt, AreListsTried, AreMarksTried, HasRoomToKeep, IsSettledTried, IsTrial};
+ghost use Rattle.roc_server_lists.specs.Inner.Trials.{after, before_trial, links_settled, unlearnt, AreListsTried, AreMarksTried, HasRoomToKeep, IsSettledTried, IsTrial};
 
 use crate::parts::ListParts;
 use crate::trial::{Found, Heard, Lesson, Settling, Trial};
@@ -146,8 +146,7 @@ fn drop_unless(waits: &mut Waits, is_known: bool, settled: &[TxnId])
 // Forgets what is over, where something is.
 fn forget_if_over(parts: &mut ListParts, over: &[TxnId])
     requires { IsOverOf parts.old over.now }
-    ensures kept { kept_in parts.new ≡ lists_forgetting (kept_in parts.old) }
-    ensures sound { AreConsistent parts.new }
+    ensures { Forgets parts.old parts.new }
 {
     if over.is_empty() {
         return;
@@ -158,8 +157,7 @@ fn forget_if_over(parts: &mut ListParts, over: &[TxnId])
 // The same where watermarks rose: components that stand under what they ended, and are not over, stand elsewhere then.
 fn forget_ended(parts: &mut ListParts, over: &[TxnId])
     requires { IsOverOf parts.old over.now }
-    ensures kept { kept_in parts.new ≡ lists_forgetting (kept_in parts.old) }
-    ensures sound { AreConsistent parts.new }
+    ensures { Forgets parts.old parts.new }
 {
     if over.is_empty() {
         parts.taken.forget(&parts.marks);

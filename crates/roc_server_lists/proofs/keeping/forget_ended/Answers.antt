@@ -5,23 +5,13 @@ use Rattle.roc_server_lists.proofs.NoneOver.{no_ids, nothing_forgotten, nothing_
 use Rattle.roc_server_lists.proofs.RoomAside.{alike_kept, alike_sound, room_alike}
 use Rattle.roc_server_lists.proofs.keeping.forget_ended.Goals as goal
 
-pub returns-then-is_empty-clause-kept : goal.returns-then-is_empty-clause-kept
-returns-then-is_empty-clause-kept c =
-    let k = c.args.parts.now in
-    let nothing = nothing_forgotten k c.args.over.now (no_ids c.args.over.now c.is_empty.result c.is_empty.ensures c.if-is_empty.true) c.requires in
-    let alike : AreAlike k (record k { taken = c.forget.new.self }) = room_alike k k c.forget.new.self refl (c.forget.ensures ∙ sym (ap (λ (l : KeptLists). l.lists.taken) nothing)) in
-    alike_kept k (record k { taken = c.forget.new.self }) alike ∙ nothing
-
-pub returns-then-is_empty-clause-sound : goal.returns-then-is_empty-clause-sound
-returns-then-is_empty-clause-sound c =
+pub returns-then-is_empty : goal.returns-then-is_empty
+returns-then-is_empty c =
     let k = c.args.parts.now in
     let none = no_ids c.args.over.now c.is_empty.result c.is_empty.ensures c.if-is_empty.true in
     let nothing = nothing_forgotten k c.args.over.now none c.requires in
     let alike : AreAlike k (record k { taken = c.forget.new.self }) = room_alike k k c.forget.new.self refl (c.forget.ensures ∙ sym (ap (λ (l : KeptLists). l.lists.taken) nothing)) in
-    alike_sound k (record k { taken = c.forget.new.self }) alike (nothing_over k c.args.over.now none c.requires)
-
-pub returns-clause-kept : goal.returns-clause-kept
-returns-clause-kept c = c.forget-2.ensures.kept
-
-pub returns-clause-sound : goal.returns-clause-sound
-returns-clause-sound c = c.forget-2.ensures.sound
+    record {
+      kept = alike_kept k (record k { taken = c.forget.new.self }) alike ∙ nothing;
+      sound = alike_sound k (record k { taken = c.forget.new.self }) alike (nothing_over k c.args.over.now none c.requires);
+    }

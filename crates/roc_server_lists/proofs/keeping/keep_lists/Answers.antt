@@ -26,3 +26,6 @@ pub returns-clause-kept : goal.returns-clause-kept
 returns-clause-kept c =
     c.forget_if_over.ensures.kept
     ∙ ap lists_forgetting (lists_kept c.args.parts.now c.keep_found.new.parts c.args.lesson c.requires (subst (λ news. KeepsFound c.args.parts.now c.keep_found.new.parts news c.args.lesson.found) c.deref.ensures.value c.keep_found.ensures))
+
+pub returns-clause-sound : goal.returns-clause-sound
+returns-clause-sound c = c.forget_if_over.ensures.sound

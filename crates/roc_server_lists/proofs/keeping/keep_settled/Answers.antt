@@ -35,3 +35,6 @@ returns-clause-kept c =
     c.deref.ensures.value c.deref-2.ensures.value c.deref-3.ensures.value c.settle_all.ensures.known c.settle_all.ensures.links
     c.settle_all.ensures.decided c.decide.ensures.known c.decide.ensures.links c.decide.ensures.decided c.add.ensures
     c.drop_unless.ensures.waiting c.drop_unless.ensures.fetches)
+
+pub returns-clause-sound : goal.returns-clause-sound
+returns-clause-sound c = c.forget_ended.ensures.sound
