@@ -1,5 +1,6 @@
 -- Of what new lists name, those whose entries are done, as they are listed
-use Rattle.std.proofs.Common.{◌≡◌, ◌==◌, ◌&&◌, ◌≤◌, ℕ, suc, min, Bool, true, false, not, cond, List, [], ◌∷◌, ◌++◌, map, filter, refl, sym, ap, subst, ◌∙◌, inl, inr, arith}
+use Rattle.std.proofs.Common.{◌≡◌, ◌==◌, ◌&&◌, ◌<◌, ◌≤◌, ℕ, suc, min, Bool, true, false, not, cond, List, [], ◌∷◌, ◌++◌, map, filter, refl, sym, ap, subst, ◌∙◌, inl, inr, arith}
+use Rattle.std.proofs.lemmas.Bool.Decides.{nat_tests}
 use Rattle.std.proofs.lemmas.List.Concat.{flat_map-append}
 use Rattle.std.specs.List.Sorted.{IsStrictlySortedBy}
 use Rattle.roc_sequence.specs.Lists.{Has}
@@ -67,6 +68,23 @@ module _ (shard : Shard) (started : List StartedGroup) (below : List ℕ) (known
   done_with_news =
       ap (map (λ (d : Dependency). d.from))
       (filter_alike (is_done_with shard started below known) (λ (d : Dependency). is_done_at shard started below (known ++ news) d.from) (united (all_entries news)) with_news)
+
+-- an entry that tells of a lower shard than this one does not tell that they are
+unequal : (a n own : ℕ) → a ≤ n → n < own → (a == own) ≡ false
+unequal a n own le lt = grind (arith, nat_tests)
+
+pub told_lower : (shard : Shard) (started : List StartedGroup) (below : List ℕ) (known : List KnownList) (d : Dependency) → d.at.0 < shard.0 → is_done_with shard started below known d ≡ false
+told_lower shard started below known d low =
+    let most : ℕ = min d.at.0 (suc shard.0) in
+    let lower : most < shard.0 = omega (arith, low) in
+    ap (λ b. is_ended below d.from && (not (is_here d.from started) && b))
+    (unequal (least_naming d.from most (all_entries known)) most shard.0 (least_bound d.from most (all_entries known)) lower)
+    ∙ neither (is_ended below d.from) (not (is_here d.from started))
+  where
+    neither : (a b : Bool) → (a && (b && false)) ≡ false
+    neither true true = refl
+    neither true false = refl
+    neither false b = refl
 
 -- ---- they rise, and are all of them
 

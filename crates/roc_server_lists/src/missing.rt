@@ -43,6 +43,9 @@ fn is_done_with(shard: Shard, parts: &ListParts, started: &StartedGroups, edge: 
     let id = edge.from();
     let own = u16::from(shard.0);
     let told = u16::from(edge.at().0);
+    if told < own {
+        return false;
+    }
     parts.marks.is_ended(id)
         && !is_here(started, id)
         && parts.table.least_naming(id, told.min(own + 1)) == own
