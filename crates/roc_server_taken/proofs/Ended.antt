@@ -1,7 +1,8 @@
 -- Components that stand under ended members of a coordinator are found side by side
-use Rattle.std.proofs.Common.{◌≡◌, ◌==◌, ◌&&◌, ℕ, Bool, true, false, cond, not, List, [], ◌∷◌, ◌++◌, take, drop, filter, refl, sym, ap, subst, ◌∙◌, zero, suc, arith}
+use Rattle.std.proofs.Common.{◌≡◌, ◌==◌, ◌&&◌, ◌<◌, ℕ, Bool, true, false, cond, not, List, [], ◌∷◌, ◌++◌, length, take, drop, filter, refl, sym, ap, subst, ◌∙◌, inl, inr, zero, suc, arith}
+use Rattle.std.proofs.lemmas.Bool.{cases_lt}
 use Rattle.std.proofs.lemmas.Bool.Decides.{nat_tests}
-use Rattle.std.proofs.lemmas.List.{take-append-drop}
+use Rattle.std.proofs.lemmas.List.{get_or_past, take-append-drop}
 use Rattle.std.specs.List.{AllByRecursion}
 use Rattle.roc_sequence.specs.Rising.{IsRising}
 use Rattle.roc_sequence.proofs.Holds.{all_append, all_weaker}
@@ -14,6 +15,25 @@ use Rattle.roc_server_taken.proofs.Standing.{rising_drop}
 
 abbrev at_mark : (coord seq : ℕ) → TxnId
 at_mark coord seq = record { coord = coord; seq = seq }
+
+-- ---- one that is ended
+
+module _ (below : List ℕ) where
+  -- where it is of a coordinator, it passes the test
+  pub ended_here : (k : ℕ) (a : TxnId) → a.coord ≡ k → is_ended below a ≡ true → (a.coord == k && is_ended below a) ≡ true
+  ended_here k a s e = ap (λ b. (a.coord == k) && b) e ∙ grind (arith, nat_tests)
+
+  -- its coordinator has a watermark
+  pub coord_within : (n : ℕ) → n ≡ length below → (a : TxnId) → is_ended below a ≡ true → a.coord < n
+  coord_within n len a e =
+      elim (cases_lt a.coord n) [
+        | inl l ↦ l
+        | inr h ↦ absurd (
+            let none : mark_of below a.coord ≡ 0 = get_or_past below a.coord 0 (omega arith) in
+            grind (arith, nat_tests))
+      ]
+
+-- ---- those of a coordinator
 
 module _ (below : List ℕ) (k : ℕ) where
   abbrev mark : ℕ

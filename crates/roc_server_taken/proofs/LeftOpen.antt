@@ -1,9 +1,7 @@
 -- What is left of components where those that are over go, and others stand under other members
 use Rattle.std.proofs.Common.{◌≡◌, ◌≢◌, ◌<◌, ◌≤◌, ◌+◌, ℕ, suc, Bool, true, false, cond, not, List, [], ◌∷◌, ◌++◌, length, map, filter, refl, sym, ap, subst, ◌∙◌, inl, inr, arith}
 use Rattle.std.proofs.lemmas.Bool.{false≢true}
-use Rattle.std.proofs.lemmas.Bool.Decides.{nat_tests}
-use Rattle.std.proofs.lemmas.List.{get_or_past}
-use Rattle.std.specs.Prelude.{◌⊎◌, ◌==◌, ◌&&◌}
+use Rattle.std.specs.Prelude.{◌⊎◌}
 use Rattle.std.specs.List.{AllByRecursion}
 use Rattle.roc_sequence.specs.Lists.{Has}
 use Rattle.roc_sequence.specs.Rising.{IsRising}
@@ -11,10 +9,11 @@ use Rattle.roc_sequence.proofs.Holds.{all_has, all_weaker, every_has, has_all}
 use Rattle.roc_sequence.proofs.Members.{has_append, has_left, has_right}
 use Rattle.roc_base.specs.declared.id.TxnId.{TxnId}
 use Rattle.roc_server_taken.specs.declared.components.Component.{Component}
-use Rattle.roc_step.specs.Below.{is_ended, mark_of}
+use Rattle.roc_step.specs.Below.{is_ended}
 use Rattle.roc_step.specs.Forgets.{is_over}
 use Rattle.roc_server_taken.specs.Inner.Over.{by_turn, is_not_ahead, is_not_over, is_under, members_by_turn, put_turned}
 use Rattle.roc_server_taken.specs.Inner.Over.{turned_component, AreBefore, AreStanding, HaveOwnTurns, IsPutBetween, LeavesOpen, TurnedComponent}
+use Rattle.roc_server_taken.proofs.Ended.{coord_within, ended_here}
 use Rattle.roc_server_taken.proofs.TurnOrder.{all_between, all_pass, from_all_between, from_turns_between, members_left, put_between, put_last, put_lost, turned_all, turns_between}
 
 -- ---- one component more
@@ -158,22 +157,17 @@ module _ (below : List ℕ) where
   from_next k old new h from none c has e =
       let low : k ≤ c.under.coord = from c (h.ended c has e) e in
       let other = all_has (λ c. is_under below k c ≡ false) c new none has in
-      let apart : c.under.coord ≢ k = λ same. false≢true (sym other ∙ here c.under same e) in
+      let apart : c.under.coord ≢ k = λ same. false≢true (sym other ∙ ended_here below k c.under same e) in
       omega (arith, low, apart)
-    where
-      here : (a : TxnId) → a.coord ≡ k → is_ended below a ≡ true → (a.coord == k && is_ended below a) ≡ true
-      here a s e = ap (λ b. (a.coord == k) && b) e ∙ grind (arith, nat_tests)
 
   pub from_all : (cs : List Component) (n : ℕ) → n ≡ length below → AreFrom n cs → AllByRecursion (λ c. is_ended below c.under ≡ false) cs
   from_all cs n len from = has_all (λ c. is_ended below c.under ≡ false) cs (λ c has. go c has (is_ended below c.under) refl)
     where
-      past : (a : TxnId) → n ≤ a.coord → is_ended below a ≡ false
-      past a h =
-          let none : mark_of below a.coord ≡ 0 = get_or_past below a.coord 0 (omega arith) in
-          grind (arith, nat_tests)
-
       go : (c : Component) → Has c cs → (b : Bool) → is_ended below c.under ≡ b → is_ended below c.under ≡ false
-      go c has true e = past c.under (from c has e)
+      go c has true e = absurd (
+          let high : n ≤ c.under.coord = from c has e in
+          let low : c.under.coord < n = coord_within below n len c.under e in
+          omega (arith, high, low))
       go c has false e = e
 
   -- ---- exactly those that are not over

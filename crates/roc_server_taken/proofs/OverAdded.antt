@@ -2,11 +2,8 @@
 use Rattle.std.proofs.Common.{cond, Some, take, append-nil, append_assoc, ◌≡◌, ◌<◌, ◌+◌, ℕ, zero, suc, Bool, true, false}
 use Rattle.std.proofs.Common.{List, [], ◌∷◌, ◌++◌, length, map, filter, refl, sym, ap, subst, ◌∙◌, inl, inr, arith}
 use Rattle.std.proofs.lemmas.Bool.{cases_lt}
-use Rattle.std.proofs.lemmas.Bool.Decides.{nat_tests}
-use Rattle.std.proofs.lemmas.List.{get_or_past}
 use Rattle.std.proofs.lemmas.List.Concat.{flat_map-append}
 use Rattle.std.proofs.lemmas.List.Elements.{filter-append}
-use Rattle.std.specs.Prelude.{◌==◌, ◌&&◌}
 use Rattle.std.specs.List.{AllByRecursion, flat_map, slice_get}
 use Rattle.roc_sequence.specs.Lists.{Has}
 use Rattle.roc_sequence.specs.Places.{IsListed}
@@ -18,10 +15,11 @@ use Rattle.roc_base.specs.Equalities.{is_txn-true, is_txn-same}
 use Rattle.roc_base.specs.TxnId.{is_txn}
 use Rattle.roc_depgraph.specs.Closure.{IsRisingListOf}
 use Rattle.roc_server_taken.specs.declared.components.Component.{Component}
-use Rattle.roc_step.specs.Below.{is_ended, mark_of}
+use Rattle.roc_step.specs.Below.{is_ended}
 use Rattle.roc_step.specs.Forgets.{is_over, over}
 use Rattle.roc_server_taken.specs.Components.{AreOver}
 use Rattle.roc_server_taken.specs.Inner.Over.{by_turn, is_under, members_by_turn, turned_component, AddsAll, AddsUpto, TurnedComponent}
+use Rattle.roc_server_taken.proofs.Ended.{coord_within, ended_here}
 use Rattle.roc_server_taken.proofs.TurnOrder.{from_has_turned, has_turned}
 
 module _ (below : List ℕ) where
@@ -64,15 +62,12 @@ module _ (below : List ℕ) where
             (subst (λ m. Has m (members_by_turn cs)) (sym c.2) (has_map (λ (y : TurnedComponent). y.members) (turned_component c.0) (by_turn cs) (has_turned c.0 cs d.0)))
             a.2 a.3
 
-        passes : (a : TxnId) → a.coord ≡ k → is_ended below a ≡ true → (a.coord == k && is_ended below a) ≡ true
-        passes a s e = ap (λ b. (a.coord == k) && b) e ∙ grind (arith, nat_tests)
-
         here : (c : Component) (t : TxnId) → Has c cs → c.under.coord ≡ k → is_over below c.members ≡ true → Has t c.members
             → Has t (over below (map (λ (c : Component). c.members) (filter (is_under below k) cs)))
         here c t has same o m =
             let ended = every_has (is_ended below) c.members o c.under (all_has (λ (c : Component). Has c.under c.members) c cs among has) in
             has_over c.members t (map (λ (c : Component). c.members) (filter (is_under below k) cs))
-            (has_map (λ (c : Component). c.members) c (filter (is_under below k) cs) (has_filter (is_under below k) c cs has (passes c.under same ended))) o m
+            (has_map (λ (c : Component). c.members) c (filter (is_under below k) cs) (has_filter (is_under below k) c cs has (ended_here below k c.under same ended))) o m
 
     pub adds_all : (n : ℕ) (old new : List TxnId) → n ≡ length below → AddsUpto below n cs old new → AddsAll (over below (members_by_turn cs)) old new
     adds_all n old new len h = record {
@@ -85,18 +80,9 @@ module _ (below : List ℕ) where
           let same : a.0 ≡ c.0.members = y.2 ∙ ap (λ (y : TurnedComponent). y.members) c.2 in
           let o : is_over below c.0.members ≡ true = ap (is_over below) (sym same) ∙ a.2 in
           h.all c.0 t c.1
-          (within c.0.under (every_has (is_ended below) c.0.members o c.0.under (all_has (λ (c : Component). Has c.under c.members) c.0 cs among c.1)))
+          (coord_within below n len c.0.under (every_has (is_ended below) c.0.members o c.0.under (all_has (λ (c : Component). Has c.under c.members) c.0 cs among c.1)))
           o (subst (Has t) same a.3);
     }
-      where
-        within : (a : TxnId) → is_ended below a ≡ true → a.coord < n
-        within a e =
-            elim (cases_lt a.coord n) [
-              | inl l ↦ l
-              | inr h ↦ absurd (
-                  let none : mark_of below a.coord ≡ 0 = get_or_past below a.coord 0 (omega arith) in
-                  grind (arith, nat_tests))
-            ]
 
   -- ---- one after another
 
