@@ -1,5 +1,5 @@
 -- The transactions of components that are over, as they are found coordinator by coordinator
-use Rattle.std.proofs.Common.{cond, Some, take, append-nil, append_assoc, ◌≡◌, ◌<◌, ◌+◌, ℕ, zero, suc, Bool, true, false}
+use Rattle.std.proofs.Common.{cond, Some, get_or, take, append-nil, append_assoc, ◌≡◌, ◌<◌, ◌+◌, ℕ, zero, suc, Bool, true, false}
 use Rattle.std.proofs.Common.{List, [], ◌∷◌, ◌++◌, length, map, filter, refl, sym, ap, subst, ◌∙◌, inl, inr, arith}
 use Rattle.std.proofs.lemmas.Bool.{cases_lt}
 use Rattle.std.proofs.lemmas.List.Concat.{flat_map-append}
@@ -7,6 +7,7 @@ use Rattle.std.proofs.lemmas.List.Elements.{filter-append}
 use Rattle.std.specs.List.{AllByRecursion, flat_map, slice_get}
 use Rattle.roc_sequence.specs.Lists.{Has}
 use Rattle.roc_sequence.specs.Places.{IsListed}
+use Rattle.roc_sequence.proofs.Fronts.{front_more}
 use Rattle.roc_sequence.proofs.Holds.{all_has, every_has}
 use Rattle.roc_sequence.proofs.Listed.{has_listed, listed_has}
 use Rattle.roc_sequence.proofs.Members.{from_has_filter, from_has_flat_map, from_has_map, has_append, has_filter, has_flat_map, has_left, has_map, has_right}
@@ -109,6 +110,15 @@ module _ (below : List ℕ) where
 
   over_both : (taken more : List (List TxnId)) → over below (taken ++ more) ≡ over below taken ++ over below more
   over_both taken more = ap (flat_map (λ c. c)) (filter-append (is_over below) taken more) ∙ flat_map-append (λ (c : List TxnId). c) (filter (is_over below) taken) (filter (is_over below) more)
+
+  -- one list of members more
+  pub more_over : (ms : List (List TxnId)) (i : ℕ) (m : List TxnId) → i < length ms → m ≡ get_or ms i m → over below (take (i + 1) ms) ≡ over below (take i ms) ++ cond (is_over below m) m []
+  more_over ms i m within is =
+      ap (over below) (sym (front_more ms i m within is)) ∙ over_both (take i ms) (m ∷ []) ∙ ap (λ l. over below (take i ms) ++ l) (go (is_over below m))
+    where
+      go : (b : Bool) → flat_map (λ c. c) (cond b (m ∷ []) []) ≡ cond b m []
+      go true = append-nil m
+      go false = refl
 
   pub both_over : (taken more : List (List TxnId)) (none ids all rising : List TxnId) → none ≡ [] → AddsAll (over below taken) none ids → all ≡ ids ++ over below more
       → IsRisingListOf (IsListed is_txn all) rising → AreOver below (taken ++ more) rising

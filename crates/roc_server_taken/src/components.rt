@@ -1,5 +1,6 @@
 //! Components as they stand: rising by a member of each, so that those that may be over are found by coordinator and sequence.
-ghost use Rattle.std.specs.Prelude.{◌≡◌, ◌≢◌, ◌+◌, ◌-◌, ◌<◌, ◌≤◌, ◌++◌, ◌∷◌, [], false, true, not, length, take, drop, slice_get, filter, vec_len, vec_capacity, ℕ, Some, IfNone, IfSome};
+ghost use Rattle.std.specs.Prelude.{◌≡◌, ◌≢◌, ◌+◌, ◌-◌, ◌<◌, ◌≤◌, ◌++◌, ◌∷◌, [], false, true, not, length, take, drop, slice_get, filter, vec_len, vec_capacity, ℕ};
+ghost use Rattle.std.specs.Prelude.{Some, IfNone, IfSome, OnOk, if◌then◌else◌};
 ghost use Rattle.std.specs.List.{AllByRecursion};
 ghost use Rattle.roc_sequence.specs.Lists.{Has};
 ghost use Rattle.roc_sequence.specs.Rising.{IsRising};
@@ -10,7 +11,7 @@ ghost use Rattle.roc_step.specs.Forgets.{is_over};
 ghost use Rattle.roc_server_taken.specs.Inner.Over.{is_not_ahead, is_under, members_by_turn, turns_left, AreBefore, AreStanding, IsPutBetween, LeavesOpen};
 
 use crate::marks::Marks;
-use roc_base::TxnId;
+use roc_base::{NoMemory, TxnId};
 use roc_sequence::Sequence;
 
 // A component: the member under which it stands, its turn among those that were taken, and its members.
@@ -220,4 +221,19 @@ pub(crate) fn is_over(marks: &Marks, component: &[TxnId]) -> bool
     ensures { result ≡ is_over marks.now component.now }
 {
     component.iter().all(|id| marks.is_ended(*id))
+}
+
+// Adds the transactions of a component, where it is over.
+pub(crate) fn push_if_over(
+    marks: &Marks,
+    component: &[TxnId],
+    ids: &mut Vec<TxnId>,
+) -> Result<(), NoMemory>
+    ensures { OnOk result (ids.new.items ≡ ids.old.items ++ (if is_over marks.now component.now then component.now else [])) }
+{
+    if !is_over(marks, component) {
+        return Ok(());
+    }
+    ids.extend_from_slice(component)?;
+    Ok(())
 }

@@ -7,7 +7,7 @@ ghost use Rattle.roc_step.specs.Forgets.{over};
 ghost use Rattle.roc_server_taken.specs.declared.components.Component.{Component as Seen};
 ghost use Rattle.roc_server_taken.specs.Inner.Over.{is_not_ahead, is_under, members_by_turn, AddsAll, AreStanding};
 
-use crate::components::{Component, ended_under, is_over};
+use crate::components::{Component, ended_under, push_if_over};
 use crate::marks::Marks;
 use roc_base::{NoMemory, Steps, TxnId};
 use std::marker::PhantomData;
@@ -88,9 +88,7 @@ fn push_over_under<L: Ledger>(
     let ended = components.ended_under(marks, coord);
     for at in 0..ended.len() {
         let members = ended.look(at, steps);
-        if is_over(marks, members) {
-            ids.extend_from_slice(members)?;
-        }
+        push_if_over(marks, members, ids)?;
     }
     Ok(())
 }

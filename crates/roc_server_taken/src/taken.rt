@@ -6,7 +6,7 @@ ghost use Rattle.roc_step.specs.Forgets.{is_over, over};
 ghost use Rattle.roc_server_taken.specs.Components.{AreOver};
 ghost use Rattle.roc_server_taken.specs.Inner.Over.{AddsAll};
 
-use crate::components::{Component, add_all, forget_over, is_over};
+use crate::components::{Component, add_all, forget_over, push_if_over};
 use crate::lent_components::{LentComponents, push_over};
 use crate::marks::Marks;
 use roc_base::{NoMemory, Steps, TxnId};
@@ -99,9 +99,7 @@ fn push_those_over(
     ensures { OnOk result (ids.new.items ≡ ids.old.items ++ over marks.now components.now) }
 {
     for component in components {
-        if is_over(marks, component.as_slice()) {
-            ids.extend_from_slice(component.as_slice())?;
-        }
+        push_if_over(marks, component.as_slice(), ids)?;
     }
     Ok(())
 }
