@@ -1,7 +1,8 @@
 -- The transactions of components that are over, as they are found coordinator by coordinator
-use Rattle.std.proofs.Common.{cond, Some, get_or, take, append-nil, append_assoc, ◌≡◌, ◌<◌, ◌+◌, ℕ, zero, suc, Bool, true, false}
+use Rattle.std.proofs.Common.{cond, Some, get_or, take, append-nil, ◌≡◌, ◌<◌, ◌+◌, ℕ, zero, suc, Bool, true, false}
 use Rattle.std.proofs.Common.{List, [], ◌∷◌, ◌++◌, length, map, filter, refl, sym, ap, subst, ◌∙◌, inl, inr, arith}
 use Rattle.std.proofs.lemmas.Bool.{cases_lt}
+use Rattle.std.proofs.lemmas.List.{length-map, take-map}
 use Rattle.std.proofs.lemmas.List.Concat.{flat_map-append}
 use Rattle.std.proofs.lemmas.List.Elements.{filter-append}
 use Rattle.std.specs.List.{AllByRecursion, flat_map, slice_get}
@@ -90,24 +91,6 @@ module _ (below : List ℕ) where
   abbrev members_upto : ℕ → List Component → List (List TxnId)
   members_upto n xs = map (λ (c : Component). c.members) (take n xs)
 
-  pub over_next : (xs : List Component) (i : ℕ) (m : List TxnId) → i < length xs → ((c : Component) → slice_get xs i ≡ Some c → m ≡ c.members)
-      → over below (members_upto (suc i) xs) ≡ over below (members_upto i xs) ++ cond (is_over below m) m []
-  over_next [] i m lt is = absurd (omega arith)
-  over_next (x ∷ xs) zero m lt is = go (is_over below x.members) ∙ ap (λ (ts : List TxnId). cond (is_over below ts) ts []) (sym (is x refl))
-    where
-      go : (b : Bool) → flat_map (λ c. c) (cond b (x.members ∷ []) []) ≡ cond b x.members []
-      go true = append-nil x.members
-      go false = refl
-  over_next (x ∷ xs) (suc i) m lt is = go (is_over below x.members) (over_next xs i m (omega arith) is)
-    where
-      go : (b : Bool) → over below (members_upto (suc i) xs) ≡ over below (members_upto i xs) ++ cond (is_over below m) m []
-          → flat_map (λ c. c) (cond b (x.members ∷ filter (is_over below) (members_upto (suc i) xs)) (filter (is_over below) (members_upto (suc i) xs)))
-          ≡ flat_map (λ c. c) (cond b (x.members ∷ filter (is_over below) (members_upto i xs)) (filter (is_over below) (members_upto i xs))) ++ cond (is_over below m) m []
-      go true h = ap (λ l. x.members ++ l) h ∙ sym (append_assoc x.members (over below (members_upto i xs)) (cond (is_over below m) m []))
-      go false h = h
-
-  -- ---- rising
-
   over_both : (taken more : List (List TxnId)) → over below (taken ++ more) ≡ over below taken ++ over below more
   over_both taken more = ap (flat_map (λ c. c)) (filter-append (is_over below) taken more) ∙ flat_map-append (λ (c : List TxnId). c) (filter (is_over below) taken) (filter (is_over below) more)
 
@@ -119,6 +102,20 @@ module _ (below : List ℕ) where
       go : (b : Bool) → flat_map (λ c. c) (cond b (m ∷ []) []) ≡ cond b m []
       go true = append-nil m
       go false = refl
+
+  pub over_next : (xs : List Component) (i : ℕ) (m : List TxnId) → i < length xs → ((c : Component) → slice_get xs i ≡ Some c → m ≡ c.members)
+      → over below (members_upto (i + 1) xs) ≡ over below (members_upto i xs) ++ cond (is_over below m) m []
+  over_next xs i m lt is =
+      let f : Component → List TxnId = λ c. c.members in
+      let within : i < length (map f xs) = subst (λ n. i < n) (sym (length-map xs f)) lt in
+      ap (over below) (sym (take-map f (i + 1) xs)) ∙ more_over (map f xs) i m within (there xs i lt is) ∙ ap (λ l. over below l ++ cond (is_over below m) m []) (take-map f i xs)
+    where
+      there : (xs : List Component) (i : ℕ) → i < length xs → ((c : Component) → slice_get xs i ≡ Some c → m ≡ c.members) → m ≡ get_or (map (λ (c : Component). c.members) xs) i m
+      there [] i lt is = absurd (omega arith)
+      there (x ∷ xs) zero lt is = is x refl
+      there (x ∷ xs) (suc i) lt is = there xs i (omega arith) is
+
+  -- ---- rising
 
   pub both_over : (taken more : List (List TxnId)) (none ids all rising : List TxnId) → none ≡ [] → AddsAll (over below taken) none ids → all ≡ ids ++ over below more
       → IsRisingListOf (IsListed is_txn all) rising → AreOver below (taken ++ more) rising

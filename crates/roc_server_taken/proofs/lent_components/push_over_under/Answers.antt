@@ -1,4 +1,4 @@
-use Rattle.std.proofs.Common.{◌≡◌, ◌<◌, ◌+◌, ◌++◌, ◌∙◌, ℕ, cond, List, [], Some, length, map, take, sym, ap, add-one, append_assoc, arith}
+use Rattle.std.proofs.Common.{◌≡◌, ◌<◌, ◌+◌, ◌++◌, ◌∙◌, ℕ, cond, List, [], Some, length, map, take, sym, ap, append_assoc, arith}
 use Rattle.std.specs.List.{slice_get}
 use Rattle.roc_base.specs.declared.id.TxnId.{TxnId}
 use Rattle.roc_step.specs.Forgets.{is_over, over}
@@ -16,7 +16,7 @@ module _ (below : List ℕ) (cs : List Component) (k : ℕ) (m first ids new : L
   -- the members of one more were added where they are over
   one_more : ids ≡ first ++ upto k → new ≡ ids ++ added → new ≡ first ++ upto (k + 1)
   one_more was now =
-      let next : upto (k + 1) ≡ upto k ++ added = ap upto (add-one k) ∙ over_next below cs k m within is in
+      let next : upto (k + 1) ≡ upto k ++ added = over_next below cs k m within is in
       now ∙ ap (λ l. l ++ added) was ∙ append_assoc first (upto k) added ∙ ap (λ l. first ++ l) (sym next)
 
 pub loop-at-preserved : goal.loop-at-preserved
