@@ -24,11 +24,6 @@ use Rattle.roc_server.proofs.PartSteps.{all_idle, groups_idle}
 use Rattle.roc_step.specs.State.{answered, ignored, is_here, ServerState, ServerStep}
 use Rattle.roc_server.specs.Inner.Shown.{ShowsStep}
 
--- what holds holds on Ok
-pub on_ok : {T E P : Type 0} (r : Result T E) → P → OnOk r P
-on_ok (Ok x) h = h
-on_ok (Err e) h = tt
-
 -- what nothing but its answer and what it sends comes of is shown
 shows : (r : ServerStep) (old new : Collected) → r.decided ≡ [] → r.ran ≡ [] → HasSent old new r.sends → ShowsStep r r.answer r.state old new
 shows r old new decided ran sent =

@@ -10,9 +10,9 @@ use Rattle.roc_server.specs.declared.parts.ServerParts.{ServerParts}
 use Rattle.roc_server_reads.specs.declared.views.Views.{Views}
 use Rattle.roc_server.specs.Ahead.{HasRoom, HasRoomToTake, IsMadeFor, IsReady, ServingFits}
 use Rattle.roc_server.specs.Inner.AtOnce.{at_once}
-use Rattle.roc_server.specs.Inner.Held.{made_ahead, serving, CanCount, IsHeld, IsServed, IsTriedFor}
+use Rattle.roc_server.specs.Inner.Held.{made_ahead, serving, CanCount, IsHeld, IsServed}
 use Rattle.roc_server_reads.specs.Views.{viewing_of, viewing_then}
-use Rattle.roc_server.specs.Inner.Parts.{state_behind, state_of, IsIdle, IsSound}
+use Rattle.roc_server.specs.Inner.Parts.{state_behind, state_of}
 use Rattle.roc_server.specs.State.{MadeAhead, Serving}
 use Rattle.roc_step.specs.declared.handled.Handled.{Handled}
 use Rattle.roc_step.specs.Fits.{AreGroupsOf, AreReadsOf}
@@ -26,9 +26,6 @@ use Rattle.roc_server.proofs.MadeSteps.{groups_from, idle_fits, reads_from, serv
 -- ---- nothing is made ahead
 
 module _ (shard : Shard) (k : ServerParts) (x : Views) (ahead : Option Ahead) (none : ahead ≡ None) where
-  pub idle_held : IsSound k → IsIdle k → IsHeld k ahead
-  idle_held sound idle = record { sound = sound; tried = subst (IsTriedFor k) (sym none) idle }
-
   pub idle_count : CanCount x ahead
   idle_count = subst (CanCount x) (sym none) tt
 

@@ -1,5 +1,5 @@
 -- The parts of a server, as nothing is tried, as something is, and as it is kept
-use Rattle.std.proofs.Common.{◌≡◌, ◌++◌, ℕ, not, List, [], Some, filter, unwrap_or, refl, sym, ap, subst, ◌∙◌, append-nil}
+use Rattle.std.proofs.Common.{◌≡◌, ◌++◌, ℕ, not, List, [], filter, refl, sym, ap, subst, ◌∙◌, append-nil}
 use Rattle.roc_sequence.specs.Lists.{Has}
 use Rattle.roc_sequence.specs.Places.{is_listed}
 use Rattle.roc_sequence.proofs.Holds.{same_tests}
@@ -9,12 +9,11 @@ use Rattle.roc_base.specs.declared.node.Shard.{Shard}
 use Rattle.roc_base.specs.TxnId.{is_txn}
 use Rattle.roc_depgraph.specs.Deps.{IsDecided}
 use Rattle.roc_depgraph.proofs.RisingLists.{rising_one}
-use Rattle.roc_rows.specs.Store.{Store}
 use Rattle.roc_step.specs.declared.started.StartedGroup.{StartedGroup}
 use Rattle.roc_step.specs.Forgets.{over}
 use Rattle.roc_step.specs.New.{AreDecided}
 use Rattle.roc_server.specs.declared.parts.ServerParts.{ServerParts}
-use Rattle.roc_server.specs.Inner.Parts.{state_behind, state_of, CanRelease, IsIdle, IsSound, Keeps}
+use Rattle.roc_server.specs.Inner.Parts.{state_behind, state_of, CanRelease, IsIdle, IsSound}
 use Rattle.roc_server_groups.specs.GroupsNow.{groups_behind, groups_without, AreDecidedBehind, GroupsNow, IsUntried}
 use Rattle.roc_server_groups.proofs.IndexSteps.{filter_all}
 use Rattle.roc_server_lists.specs.ListsNow.{lists_behind, newly_of, over_of, tried_or, AreSound, IsNoneLeft, KeptLists, ListsNow}
@@ -53,18 +52,6 @@ module _ (k : ServerParts) (idle : IsIdle k) where
     left = subst (λ (l : KeptLists). IsNoneLeft (groups_behind (over_of k.lists.tried) k.groups) l.lists) (sym lists_idle) (subst (λ es. IsNoneLeft es k.lists.kept.lists) (sym started_idle) sound.left);
     starting = λ e has. absurd (subst (Has e) idle.groups.starting has);
   }
-
--- ---- what was kept is kept
-
--- behind a savepoint the state is what it was
-pub keeps_state : (old new : ServerParts) (was : Store) → old.rows.saved ≡ Some was → Keeps old new → (shard : Shard) → state_of shard new ≡ state_of shard old
-keeps_state old new was saved k shard i = record {
-  shard = shard;
-  store = (ap (λ o. unwrap_or o new.rows.store) (k.saved ∙ saved) ∙ sym (ap (λ o. unwrap_or o old.rows.store) saved)) i;
-  started = k.groups i;
-  lists = (k.lists i).lists;
-  below = (k.lists i).below;
-}
 
 -- ---- what is forgotten
 

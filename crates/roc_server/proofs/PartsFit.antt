@@ -1,14 +1,10 @@
 -- The parts fit: of a server that holds nothing, and behind a step that is kept
-use Rattle.std.proofs.Common.{◌≡◌, ◌∙◌, false, List, [], Some, unwrap_or, sym, ap, subst}
-use Rattle.roc_sequence.specs.Lists.{Has}
-use Rattle.roc_sequence.specs.Places.{is_listed}
+use Rattle.std.proofs.Common.{◌≡◌, ◌∙◌, List, [], Some, unwrap_or, sym, ap, subst}
 use Rattle.roc_base.specs.declared.id.TxnId.{TxnId}
 use Rattle.roc_base.specs.declared.node.Shard.{Shard}
-use Rattle.roc_base.specs.TxnId.{is_txn}
-use Rattle.roc_step.specs.declared.started.StartedGroup.{StartedGroup}
 use Rattle.roc_server.specs.declared.parts.ServerParts.{ServerParts}
 use Rattle.roc_server.specs.Inner.Parts.{state_of, CanRelease, IsIdle, IsSound}
-use Rattle.roc_server_groups.specs.GroupsNow.{groups_behind, AreDecidedBehind, AreOnce}
+use Rattle.roc_server_groups.specs.GroupsNow.{groups_behind, AreDecidedBehind, AreOnce, AreUndecided}
 use Rattle.roc_server_groups.specs.Indexed.{IsIndexOf}
 use Rattle.roc_server_lists.specs.ListsNow.{lists_behind, newly_of, no_lists, over_of, AreSound, IsNoneLeft, KeptLists}
 use Rattle.roc_server.proofs.PartSteps.{decided_then}
@@ -26,7 +22,7 @@ nothing_sound k once lists kept index none = record {
 pub released_sound : (k new : ServerParts) → IsSound k → CanRelease k → (newly over : List TxnId) → newly ≡ newly_of k.lists.tried → over ≡ over_of k.lists.tried → new.lists.kept ≡ lists_behind k.lists → AreSound new.lists
     → new.groups.kept ≡ groups_behind over k.groups → AreOnce new.groups
     → ((before after : List TxnId) → IsIndexOf k.groups.index before k.groups.kept → AreDecidedBehind before newly over after
-    → ((e : StartedGroup) → Has e k.groups.starting → is_listed is_txn before e.id ≡ false) → IsIndexOf new.groups.index after new.groups.kept)
+    → AreUndecided before k.groups.starting → IsIndexOf new.groups.index after new.groups.kept)
     → IsSound new
 released_sound k new sound can newly over newly_is over_is kept lists groups once index =
     let behind = decided_then k sound new.lists kept lists in
@@ -36,7 +32,7 @@ released_sound k new sound can newly over newly_is over_is kept lists groups onc
     record {
       groups = once;
       lists = lists;
-      index = index k.lists.decided new.lists.decided sound.index behind (λ e has. (can.starting e has).0);
+      index = index k.lists.decided new.lists.decided sound.index behind can.starting;
       left = subst (λ (l : KeptLists). IsNoneLeft new.groups.kept l.lists) (sym kept)
           (subst (λ es. IsNoneLeft es (lists_behind k.lists).lists) (sym (groups ∙ ap (λ ids. groups_behind ids k.groups) over_is)) can.left);
     }

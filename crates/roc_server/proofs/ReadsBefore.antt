@@ -1,10 +1,7 @@
 -- What is read of a server of which something was made ahead: nothing that was tried is seen
-use Rattle.std.proofs.Common.{◌≡◌, ◌↔◌, ◌+◌, Bool, true, false, cond, List, [], ◌∷◌, Result, Ok, Err, IfOk, IsTrue, length, map, filter, refl, sym, ap, subst, ◌∙◌}
+use Rattle.std.proofs.Common.{◌≡◌, ◌+◌, Bool, true, false, cond, List, [], ◌∷◌, Result, Ok, Err, IfOk, length, map, filter, refl, sym, ap, subst, ◌∙◌}
 use Rattle.std.proofs.lemmas.List.{length-append, length-map}
-use Rattle.roc_sequence.specs.Places.{is_listed, NoneTwice}
-use Rattle.roc_sequence.proofs.Places.{listed_test, listed_true}
 use Rattle.roc_base.specs.declared.id.TxnId.{TxnId}
-use Rattle.roc_base.specs.TxnId.{is_txn}
 use Rattle.roc_depgraph.specs.declared.known.KnownList.{KnownList}
 use Rattle.roc_depgraph.specs.Deps.{IsDecided}
 use Rattle.roc_depgraph.proofs.RisingLists.{rising_one}
@@ -19,10 +16,10 @@ use Rattle.roc_server_index.specs.GroupRefs.{CellRefs}
 use Rattle.roc_server_groups.specs.Indexed.{undecided_refs, AreGroupRefsOf, IsIndexOf}
 use Rattle.roc_server_groups.proofs.IndexSteps.{indexed_group_refs}
 use Rattle.roc_server.specs.Inner.Parts.{IsSound}
-use Rattle.roc_server_groups.specs.Groups.{is_same_group, AreSameGroups}
+use Rattle.roc_server_groups.specs.Groups.{AreSameGroups}
 use Rattle.roc_step.specs.Start.{is_user, users}
 use Rattle.roc_step.specs.State.{unrun}
-use Rattle.roc_server_groups.proofs.SameGroups.{fits_same, once_same}
+use Rattle.roc_server_groups.proofs.SameGroups.{fits_same}
 use Rattle.roc_server_groups.proofs.Stands.{group_refs_same}
 
 -- ---- the groups differ in what they gave alone
@@ -30,9 +27,6 @@ use Rattle.roc_server_groups.proofs.Stands.{group_refs_same}
 module _ (k : ServerParts) (sound : IsSound k) where
   pub fits_now : (plan : Plan) → AreGroupsOf plan k.groups.kept → AreGroupsOf plan k.groups.ran
   fits_now plan fits = fits_same plan k.groups.kept k.groups.ran sound.groups.same fits
-
-  pub once_now : NoneTwice is_same_group k.groups.ran
-  once_now = once_same k.groups.kept k.groups.ran sound.groups.same sound.groups.once
 
   pub index_now : IsIndexOf k.groups.index k.lists.decided k.groups.ran
   index_now c = sound.index c ∙ ap (undecided_refs k.lists.decided) (sym (group_refs_same c k.groups.kept k.groups.ran sound.groups.same))
@@ -73,12 +67,6 @@ as_many_users plan left_out immediate (a ∷ cells) old new same =
     ∙ sym (length-append (filter at old) (users plan left_out immediate cells old))
 
 -- ---- what is decided
-
-pub decided_now : (links : List KnownList) (decided : List TxnId) (id : TxnId) (found : Bool) → AreDecided links decided → found ≡ is_listed is_txn decided id → IsTrue found ↔ IsDecided links id
-decided_now links decided id found are is = (
-  λ t. are.sound id (listed_true is_txn decided id (sym is ∙ t)),
-  λ d. is ∙ listed_test is_txn decided id (are.complete id d),
-)
 
 -- what holds of the decided ones as they are kept holds of any list of exactly these
 pub for_decided : {A B E : Type 0} (r : Result A E) (read : A → B) (x : List TxnId → B) (known : List KnownList) (kept : List TxnId) → AreDecided known kept → IfOk r (λ a. read a ≡ x kept)

@@ -1,5 +1,5 @@
 -- What comes of a start, case by case
-use Rattle.std.proofs.Common.{◌≡◌, ◌==◌, ◌&&◌, Bool, true, false, not, nat_lt, cond, is_none, Some, None, Option, List, [], ◌∷◌, ◌++◌, length, map, if◌then◌else◌}
+use Rattle.std.proofs.Common.{◌≡◌, ◌&&◌, true, false, cond, is_none, Some, None, Option, List, [], ◌∷◌, ◌++◌, if◌then◌else◌}
 use Rattle.std.proofs.Common.{Result, Ok, Err, IfOk, refl, sym, ap, subst, ◌∙◌, append-nil, arith}
 use Rattle.std.proofs.lemmas.Bool.{false≢true}
 use Rattle.roc_base.specs.declared.id.TxnId.{TxnId}
@@ -9,27 +9,23 @@ use Rattle.roc_depgraph.specs.declared.known.KnownList.{KnownList}
 use Rattle.roc_depgraph.specs.Deps.{is_known}
 use Rattle.roc_group.specs.GroupRun.{GroupCall}
 use Rattle.roc_msg.specs.Outbox.{Collected, HasSent}
-use Rattle.roc_msg.specs.declared.reason.Reason.{Reason}
-use Rattle.roc_msg.specs.declared.reason.Reason.TheVariants.{BadProc, BadGroup, BadInputs, NotHere, Late, Differs}
-use Rattle.roc_plan.specs.Groups.{Plan, groups_of, is_immediate_of, shard_of, group_place}
+use Rattle.roc_plan.specs.Groups.{Plan, is_immediate_of}
 use Rattle.roc_rows.specs.Store.{Store}
-use Rattle.roc_step.specs.declared.handled.Handled.TheVariants.{Done, Gone, Ignored}
+use Rattle.roc_step.specs.declared.handled.Handled.TheVariants.{Done}
 use Rattle.roc_step.specs.declared.started.StartedGroup.{StartedGroup}
 use Rattle.roc_step.specs.New.{AreLedTo}
-use Rattle.roc_step.specs.Start.{has_procedure, has_counts, differs, start_refusal, start_judged, start_taken, startok_of, edges_for}
+use Rattle.roc_step.specs.Start.{start_refusal, start_judged, start_taken, startok_of, edges_for}
 use Rattle.roc_step.specs.Runs.{accesses_of}
 use Rattle.roc_server.specs.Inner.Shown.{ShowsStep}
-use Rattle.std.specs.Option.{option_map}
 use Rattle.roc_step.specs.Links.{all_entries}
-use Rattle.roc_step.specs.Below.{is_ended}
 use Rattle.roc_step.specs.declared.handled.Handled.{Handled}
 use Rattle.roc_base.proofs.Ids.{none_rise}
 use Rattle.roc_sequence.proofs.Holds.{all_weaker, any_has, has_any}
 use Rattle.roc_sequence.proofs.Members.{has_left}
 use Rattle.roc_step.specs.Waits.{was_asked_for}
 use Rattle.roc_step.proofs.Skipped.{left_still}
-use Rattle.roc_server.specs.Inner.Starts.{first_reason, start_reasons, start_fault, IsNewGroup, StartTaken, StartsNew, TellsStart}
-use Rattle.roc_step.specs.State.{first_answer, find_group, ServerState, ServerStep, is_here}
+use Rattle.roc_server.specs.Inner.Starts.{IsNewGroup, StartTaken, StartsNew, TellsStart}
+use Rattle.roc_step.specs.State.{find_group, ServerState, ServerStep, is_here}
 use Rattle.roc_sequence.specs.Places.{is_listed, IsListed}
 use Rattle.roc_sequence.proofs.Places.{unlisted_test}
 use Rattle.roc_step.specs.New.{AreDecided}
@@ -101,51 +97,6 @@ start_tried plan decided s store started id c e old sent n is told =
         ran = told.ran ∙ (λ i. old.ran ++ accesses_of (if is_immediate_of plan (n.is i).proc (n.is i).group then n.is i ∷ [] else []));
       };
     }
-
--- ---- a start that is taken is not late
-
-kept_reason : (b : Bool) (r : Reason) (rest : List (Bool × Reason)) → first_reason ((b, r) ∷ rest) ≡ None → (b ≡ false) × (first_reason rest ≡ None)
-kept_reason true r rest h = absurd (cc)
-kept_reason false r rest h = (refl, h)
-
--- the answers that refuse are those of the reasons
-ignored_by : (rs : List (Bool × Reason)) → first_answer (map (λ c. (c.0, Ignored c.1)) rs) ≡ option_map (λ r. Ignored r) (first_reason rs)
-ignored_by [] = refl
-ignored_by (c ∷ cs) = go c.0 (ignored_by cs)
-  where
-    go : (b : Bool) → first_answer (map (λ c. (c.0, Ignored c.1)) cs) ≡ option_map (λ r. Ignored r) (first_reason cs)
-        → cond b (Some (Ignored c.1)) (first_answer (map (λ c. (c.0, Ignored c.1)) cs)) ≡ option_map (λ r. Ignored r) (cond b (Some c.1) (first_reason cs))
-    go true ih = refl
-    go false ih = ih
-
-pub refused_by : (plan : Plan) (s : ServerState) (id : TxnId) (c : GroupCall)
-    → start_refusal plan s id c ≡ cond (is_none (find_group id c.group s.started) && is_ended s.below id) (Some Gone) (option_map (λ r. Ignored r) (start_fault plan s id c))
-refused_by plan s id c = ap (λ (o : Option Handled). cond (is_none (find_group id c.group s.started) && is_ended s.below id) (Some Gone) o) (ignored_by (start_reasons plan s id c))
-
-not_ignored : (f : Option Reason) (late : Bool) → cond late (Some Gone) (option_map (λ r. Ignored r) f) ≡ None → f ≡ None
-not_ignored None late h = refl
-not_ignored (Some r) true h = absurd (cc)
-not_ignored (Some r) false h = absurd (cc)
-
--- what is taken is not ignored
-pub not_at_fault : (plan : Plan) (s : ServerState) (id : TxnId) (c : GroupCall) → start_refusal plan s id c ≡ None → start_fault plan s id c ≡ None
-not_at_fault plan s id c taken = not_ignored (start_fault plan s id c) (is_none (find_group id c.group s.started) && is_ended s.below id) (sym (refused_by plan s id c) ∙ taken)
-
-pub not_late : (plan : Plan) (s : ServerState) (id : TxnId) (c : GroupCall) → start_refusal plan s id c ≡ None → find_group id c.group s.started ≡ None → is_known s.lists.known id ≡ false
-not_late plan s id c taken absent =
-    let h = not_at_fault plan s id c taken in
-    let Reasons : Type 0 = List (Bool × Reason) in
-    let last : Reasons = (differs s id c, Differs) ∷ [] in
-    let late : Reasons = (is_none (find_group id c.group s.started) && is_known s.lists.known id, Late) ∷ last in
-    let elsewhere : Reasons = (not (shard_of plan (group_place plan c.proc c.group c.args c.inputs) == s.shard.0), NotHere) ∷ late in
-    let counted : Reasons = (not (has_counts plan c), BadInputs) ∷ elsewhere in
-    let numbered : Reasons = (not (nat_lt c.group (length (groups_of plan c.proc))), BadGroup) ∷ counted in
-    let first = kept_reason (not (has_procedure plan c.proc)) BadProc numbered h in
-    let second = kept_reason (not (nat_lt c.group (length (groups_of plan c.proc)))) BadGroup counted first.1 in
-    let third = kept_reason (not (has_counts plan c)) BadInputs elsewhere second.1 in
-    let fourth = kept_reason (not (shard_of plan (group_place plan c.proc c.group c.args c.inputs) == s.shard.0)) NotHere late third.1 in
-    let fifth = kept_reason (is_none (find_group id c.group s.started) && is_known s.lists.known id) Late last fourth.1 in
-    ap (λ g. is_none g && is_known s.lists.known id) (sym absent) ∙ fifth.0
 
 -- ---- what is kept
 

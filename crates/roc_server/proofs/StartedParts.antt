@@ -1,5 +1,6 @@
 -- A group that starts, over the parts of a server
-use Rattle.std.proofs.Common.{◌≡◌, ◌++◌, ℤ, Bool, false, List, [], ◌∷◌, None, inl, inr, map, filter, if◌then◌else◌, sym, ap, subst, ◌∙◌}
+use Rattle.std.proofs.Common.{◌≡◌, ◌++◌, ℤ, Bool, false, List, [], ◌∷◌, None, map, filter, if◌then◌else◌, sym, ap, subst, ◌∙◌}
+use Rattle.roc_sequence.proofs.Members.{has_one}
 use Rattle.roc_sequence.specs.Lists.{Has}
 use Rattle.roc_base.specs.declared.id.TxnId.{TxnId}
 use Rattle.roc_base.specs.declared.node.Shard.{Shard}
@@ -26,7 +27,7 @@ use Rattle.roc_step.specs.Runs.{group_call}
 use Rattle.roc_step.specs.State.{ServerState}
 use Rattle.roc_step.proofs.SameIds.{known_alike}
 use Rattle.roc_server_groups.specs.GroupsNow.{groups_behind}
-use Rattle.roc_server_lists.specs.ListsNow.{lists_behind, newly_of, over_of, IsNoneLeft, KeptLists}
+use Rattle.roc_server_lists.specs.ListsNow.{lists_behind, over_of, IsNoneLeft, KeptLists}
 use Rattle.roc_server.specs.Inner.Parts.{state_behind, state_of, CanRelease, IsIdle, IsSound}
 use Rattle.roc_server.specs.Inner.Starts.{IsNewGroup, StartsNew, TellsStart}
 use Rattle.roc_server.proofs.PartSteps.{lists_idle, others_none}
@@ -112,18 +113,9 @@ module _ (plan : Plan) (old new : ServerParts) (idle : IsIdle old) (e : StartedG
         let own : e.id ≡ id = ap (λ (g : StartedGroup). g.id) n.is in
         let known : is_known old.lists.kept.lists.links id ≡ false = known_alike old.lists.kept.lists.known old.lists.kept.lists.links sound.lists.same_ids id ∙ unknown in
         let free : is_listed is_txn old.lists.decided id ≡ false = not_decided old.lists.kept.lists.links old.lists.decided id sound.lists.decided known in
-        let none : newly_of new.lists.tried ≡ [] = (λ i. newly_of (lists i).tried) ∙ ap newly_of idle.lists in
         record {
           left =
               subst (λ (l : KeptLists). IsNoneLeft (groups_behind (over_of new.lists.tried) new.groups) l.lists) (sym lists_same)
               (subst (λ es. IsNoneLeft es old.lists.kept.lists) (sym started_more) (left_more old.groups.kept old.lists.kept.lists e sound.left));
-          starting = λ x has. alone x (subst (Has x) starting has) own free none;
+          starting = λ x has. (λ i. is_listed is_txn (lists i).decided x.id) ∙ ap (is_listed is_txn old.lists.decided) (ap (λ (g : StartedGroup). g.id) (has_one x e (subst (Has x) starting has)) ∙ own) ∙ free;
         }
-      where
-        alone : (x : StartedGroup) → Has x (e ∷ []) → e.id ≡ id → is_listed is_txn old.lists.decided id ≡ false → newly_of new.lists.tried ≡ []
-            → (is_listed is_txn new.lists.decided x.id ≡ false) × (is_listed is_txn (newly_of new.lists.tried) x.id ≡ false)
-        alone x (inl is) own free none = (
-          (λ i. is_listed is_txn (lists i).decided x.id) ∙ ap (λ (t : TxnId). is_listed is_txn old.lists.decided t) (ap (λ (g : StartedGroup). g.id) is ∙ own) ∙ free,
-          ap (λ (ids : List TxnId). is_listed is_txn ids x.id) none,
-        )
-        alone x (inr none_more) own free none = absurd none_more

@@ -1,7 +1,7 @@
 //! Fetches.
-ghost use Rattle.std.specs.Prelude.{◌≡◌, ◌∷◌, [], if◌then◌else◌, IfOk, OnOk, OnErr};
+ghost use Rattle.std.specs.Prelude.{◌≡◌, ◌∷◌, [], if◌then◌else◌, IfOk, OnOk};
 ghost use Rattle.roc_base.specs.declared.node.Node.TheVariants.{Server};
-ghost use Rattle.roc_msg.specs.Outbox.{HasSent, HoldsSame};
+ghost use Rattle.roc_msg.specs.Outbox.{HasSent};
 ghost use Rattle.roc_msg.specs.declared.msg.Msg.TheVariants.{Settled};
 ghost use Rattle.roc_msg.specs.declared.reason.Reason.TheVariants.{NotHere};
 ghost use Rattle.roc_step.specs.Below.{is_ended, mark_of};
@@ -60,7 +60,6 @@ fn answer_absent(
     ensures answer { IfOk result (λ answer. answer ≡ (if is_ended lists.now.kept.below id then Done else Ignored NotHere)) }
     ensures sent { OnOk result (HasSent sends.old sends.new (
         if is_ended lists.now.kept.below id then (record { to = Server asker; msg = Settled id (mark_of lists.now.kept.below id.coord) }) ∷ [] else [])) }
-    ensures err { OnErr result (HoldsSame sends.old sends.new) }
 {
     if !lists.is_ended(id) {
         return Ok(Handled::Ignored(Reason::NotHere));

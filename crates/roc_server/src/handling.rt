@@ -95,7 +95,7 @@ fn make_ready(
     }
 }
 
-// Plans a message ahead, unless it is. What was made ahead for another one is given up.
+// Makes ahead what comes of a message, unless that stands already. What was made ahead for another one is given up.
 fn make_once(
     alloc: Global,
     plan: &Plan,
@@ -142,7 +142,6 @@ fn needs_room(msg: &Msg) -> bool
 
 // Whether what comes of this message was made ahead.
 fn is_made(ahead: &Option<Ahead>, msg: &Msg) -> bool
-    requires { needs_room msg.now ≡ true }
     ensures is { IsTrue result → IsSome ahead.now × IfSome ahead.now (λ made. made.msg.value ≡ msg.now) }
     ensures all { IfSome ahead.now (λ made. made.msg.value ≡ msg.now → IsTrue result) }
 {

@@ -15,7 +15,7 @@
 //! [`Server::entries`] gives the entries of a group that would start, and looks at no more started groups than there are
 //! pairs of a cell that it uses and an undecided group of its class that uses that cell (`users` of `specs/Start.antt` of `roc_step`).
 //!
-//! Beside its state a server keeps what views need (`Viewing` of `specs/State.antt`): how often each cell was written, and reads that wait.
+//! Beside its state a server keeps what views need (`Viewing` of `specs/State.antt` of `roc_step`): how often each cell was written, and reads that wait.
 //! A read of a view is judged, and changes nothing of the state; it is answered behind the step, its own or a later one, behind which no undecided
 //! group here writes one of its cells, with the cells and the versions as that step leaves them (`AnswersReads` of `specs/Reads.antt` of `roc_step`,
 //! which is one, too). ROCOCO (OSDI 2014, on read-only transactions) has a server wait for the conflicting transactions that it knows; here too
@@ -25,7 +25,7 @@
 //! `StandsFor` of `specs/Restarts.antt` of `roc_step`, with their laws). [`Server::renew`] gives up all but the cells, their versions and the watermarks
 //! (`specs/Renewed.antt` of `roc_step`): what is left is of any plan.
 //!
-//! What a server keeps beside its state, so that a step costs what is undecided, is in an invariant of the type and in
+//! What a server keeps beside its state, so that most steps cost what is undecided, is in an invariant of the type and in
 //! no clause. `specs/Inner/` is of this crate alone.
 #![tactic(auto)]
 

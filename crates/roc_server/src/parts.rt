@@ -64,7 +64,7 @@ pub(crate) fn roll_back(parts: &mut ServerParts)
     parts.rows.rollback();
 }
 
-// All goes but the cells and the watermarks, where nothing is tried. Takes no memory.
+// All goes but the cells and the watermarks, and so does what was tried. Takes no memory.
 pub(crate) fn renew(parts: &mut ServerParts)
     requires sound { IsSound parts.old }
     ensures state { (shard : At) → state_of shard parts.new ≡ renewed (state_of shard parts.old) }

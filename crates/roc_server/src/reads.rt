@@ -8,7 +8,7 @@ ghost use Rattle.roc_server_lists.specs.ListsNow.{lists_of};
 ghost use Rattle.roc_server_reads.specs.Answering.{TakenFits};
 ghost use Rattle.roc_server_reads.specs.Views.{reads_then, viewing_of, HasRoomToCount};
 ghost use Rattle.roc_server.specs.Inner.Answering.{FindsReads};
-ghost use Rattle.roc_server.specs.Inner.Parts.{state_behind, CanRelease, IsSound};
+ghost use Rattle.roc_server.specs.Inner.Parts.{state_behind, IsSound};
 
 use crate::Handled;
 use crate::parts::ServerParts;
@@ -55,7 +55,6 @@ pub(crate) fn answer_reads(
     requires fits { AreReadsOf plan.now views.old.reads.items }
     requires taken { TakenFits plan.now msg.now answer }
     requires sound { IsSound parts.now }
-    requires can { CanRelease parts.now }
     ensures step { IfOk result (λ stays. FindsReads plan.now (state_behind shard parts.now) (viewing_of views.old) msg.now answer sends.old sends.new stays) }
     ensures fits { IfOk result (λ stays. AreReadsOf plan.now (reads_then views.old.reads.items stays)) }
     ensures same { viewing_of views.new ≡ viewing_of views.old }
@@ -84,7 +83,6 @@ fn answer_by_ledger<L: Ledger>(
     requires fits { AreReadsOf plan.now views.old.reads.items }
     requires taken { TakenFits plan.now msg.now answer }
     requires sound { IsSound parts.now }
-    requires can { CanRelease parts.now }
     ensures step { IfOk result (λ stays. FindsReads plan.now (state_behind shard parts.now) (viewing_of views.old) msg.now answer sends.old sends.new stays) }
     ensures fits { IfOk result (λ stays. AreReadsOf plan.now (reads_then views.old.reads.items stays)) }
     ensures same { viewing_of views.new ≡ viewing_of views.old }

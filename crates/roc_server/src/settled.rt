@@ -1,5 +1,6 @@
 //! Watermarks, and transactions for which nobody has to wait any more.
 ghost use Rattle.std.specs.Prelude.{IfOk, OnOk};
+ghost use Rattle.roc_msg.specs.Outbox.{Collected};
 ghost use Rattle.roc_step.specs.Fits.{AreGroupsOf};
 ghost use Rattle.roc_step.specs.Lists.{after_ended};
 ghost use Rattle.roc_server.specs.Inner.Parts.{state_behind, state_of, CanRelease, IsIdle, IsSound, Keeps};
@@ -20,11 +21,10 @@ pub(crate) fn try_ended(
     parts: &mut ServerParts,
     coord: u16,
     mark: u32,
-    sends: &Outbox,
 ) -> Result<Handled, NoMemory>
     requires sound { IsSound parts.old }
     requires idle { IsIdle parts.old }
-    ensures step { IfOk result (λ answer. ShowsStep (after_ended (state_of shard parts.old) coord mark) answer (state_behind shard parts.new) sends.now sends.now) }
+    ensures step { IfOk result (λ answer. (out : Collected) → ShowsStep (after_ended (state_of shard parts.old) coord mark) answer (state_behind shard parts.new) out out) }
     ensures can { OnOk result (CanRelease parts.new) }
     ensures keeps { Keeps parts.old parts.new }
     ensures sound { IsSound parts.new }

@@ -1,10 +1,8 @@
 //! A group that starts now.
 ghost use Rattle.std.specs.Prelude.{◌≡◌, map, filter, IfOk};
 ghost use Rattle.roc_base.specs.Edges.{united};
-ghost use Rattle.roc_sequence.specs.Places.{NoneTwice};
 ghost use Rattle.roc_step.specs.Fits.{IsCallOf, AreGroupsOf};
 ghost use Rattle.roc_step.specs.Start.{conflicts_before, edge_to};
-ghost use Rattle.roc_server_groups.specs.Groups.{is_same_group};
 ghost use Rattle.roc_server_groups.specs.Indexed.{IsIndexOf};
 ghost use Rattle.roc_server.specs.Inner.Parts.{state_of, IsIdle, IsSound};
 ghost use Rattle.roc_server.specs.Inner.Starts.{asked, IsNewGroup};
@@ -30,7 +28,6 @@ fn edges_of(
     cells: &[Access],
 ) -> Result<Edges, NoMemory>
     requires fits { AreGroupsOf plan.now parts.now.groups.ran }
-    requires once { NoneTwice is_same_group parts.now.groups.ran }
     requires index { IsIndexOf parts.now.groups.index parts.now.lists.decided parts.now.groups.ran }
     ensures { IfOk result (λ edges. edges
         ≡ united (map (edge_to starting.shard starting.immediate) (filter (conflicts_before plan.now parts.now.lists.decided starting.id starting.immediate cells.now) parts.now.groups.ran))) }

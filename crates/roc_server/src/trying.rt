@@ -63,7 +63,7 @@ pub(crate) fn try_message(
         }
         Msg::Fetch { id, asker } => try_fetch(shard, parts, *id, *asker, sends),
         Msg::Known { id, edges } => try_known(alloc, plan, shard, parts, *id, edges, sends),
-        Msg::Ended { coord, below } => try_ended(shard, parts, *coord, *below, sends),
+        Msg::Ended { coord, below } => try_ended(shard, parts, *coord, *below),
         Msg::Settled { id, below } => try_settled(alloc, plan, shard, parts, *id, *below, sends),
         Msg::Read {
             id,

@@ -1,14 +1,10 @@
 -- What the parts of a server hold, as the definitions see it
-use Rattle.std.specs.Prelude.{◌≡◌, false, None, unwrap_or}
-use Rattle.roc_sequence.specs.Lists.{Has}
-use Rattle.roc_sequence.specs.Places.{is_listed}
-use Rattle.roc_base.specs.TxnId.{is_txn}
+use Rattle.std.specs.Prelude.{◌≡◌, None, unwrap_or}
 use Rattle.roc_base.specs.declared.node.Shard.{Shard}
 use Rattle.roc_server.specs.declared.parts.ServerParts.{ServerParts}
-use Rattle.roc_server_groups.specs.GroupsNow.{groups_behind, AreOnce, IsUntried}
+use Rattle.roc_server_groups.specs.GroupsNow.{groups_behind, AreOnce, AreUndecided, IsUntried}
 use Rattle.roc_server_groups.specs.Indexed.{IsIndexOf}
-use Rattle.roc_server_lists.specs.ListsNow.{lists_behind, newly_of, over_of, AreSound, IsNoneLeft}
-use Rattle.roc_step.specs.declared.started.StartedGroup.{StartedGroup}
+use Rattle.roc_server_lists.specs.ListsNow.{lists_behind, over_of, AreSound, IsNoneLeft}
 use Rattle.roc_step.specs.State.{ServerState}
 
 -- before the step that is tried, or as it is where none is
@@ -49,9 +45,9 @@ pub record IsIdle (k : ServerParts) : Type 0 where
 -- what is tried can be kept: the parts will fit
 pub record CanRelease (k : ServerParts) : Type 0 where
   pub left : IsNoneLeft (groups_behind (over_of k.lists.tried) k.groups) (lists_behind k.lists).lists
-  pub starting : (e : StartedGroup) → Has e k.groups.starting → (is_listed is_txn k.lists.decided e.id ≡ false) × (is_listed is_txn (newly_of k.lists.tried) e.id ≡ false)
+  pub starting : AreUndecided k.lists.decided k.groups.starting
 
--- what was kept is kept
+-- what was kept before the step still is
 pub record Keeps (old new : ServerParts) : Type 0 where
   pub saved : new.rows.saved ≡ old.rows.saved
   pub groups : new.groups.kept ≡ old.groups.kept

@@ -7,7 +7,8 @@ use Rattle.roc_step.specs.Lists.{after_fetch}
 use Rattle.roc_step.specs.State.{is_here, ServerState}
 use Rattle.roc_server.specs.Inner.Parts.{state_of}
 use Rattle.roc_server.specs.Inner.Shown.{ShowsStep}
-use Rattle.roc_server.proofs.FetchSteps.{asked_behind, asked_can, asked_started, fetch_absent, fetch_told, fetch_waits, on_ok}
+use Rattle.roc_server.proofs.FetchSteps.{asked_behind, asked_can, asked_started, fetch_absent, fetch_told, fetch_waits}
+use Rattle.roc_server.proofs.TriedSteps.{on_any}
 use Rattle.roc_server.proofs.PartSteps.{idle_behind, idle_can, started_idle}
 use Rattle.roc_server.proofs.fetches.try_fetch.Goals as goal
 
@@ -21,10 +22,10 @@ returns-then-not-is_here-clause-step c =
     (fetch_absent was c.args.id c.args.asker c.answer_absent.result c.args.sends.now c.answer_absent.new.sends absent c.answer_absent.ensures.answer c.answer_absent.ensures.sent)
 
 pub returns-then-not-is_here-clause-started : goal.returns-then-not-is_here-clause-started
-returns-then-not-is_here-clause-started c = on_ok c.answer_absent.result (started_idle c.args.parts.now c.requires.idle)
+returns-then-not-is_here-clause-started c = on_any c.answer_absent.result (started_idle c.args.parts.now c.requires.idle)
 
 pub returns-then-not-is_here-clause-can : goal.returns-then-not-is_here-clause-can
-returns-then-not-is_here-clause-can c = on_ok c.answer_absent.result (idle_can c.args.parts.now c.requires.idle c.requires.sound)
+returns-then-not-is_here-clause-can c = on_any c.answer_absent.result (idle_can c.args.parts.now c.requires.idle c.requires.sound)
 
 pub returns-in_ok-send_known-in-Some-clause-step : goal.returns-in_ok-send_known-in-Some-clause-step
 returns-in_ok-send_known-in-Some-clause-step c =

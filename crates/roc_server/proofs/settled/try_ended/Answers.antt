@@ -6,7 +6,7 @@ use Rattle.roc_server.proofs.settled.try_ended.Goals as goal
 pub returns-clause-step : goal.returns-clause-step
 returns-clause-step c =
     let old = c.args.parts.now in
-    hears_tried c.args.shard old c.requires.idle c.args.coord c.args.mark c.hear.new.self (c.in_ok-hear.ensures.ok (state_of c.args.shard old) refl) c.args.sends.now
+    hears_tried c.args.shard old c.requires.idle c.args.coord c.args.mark c.hear.new.self (c.in_ok-hear.ensures.ok (state_of c.args.shard old) refl)
 
 pub returns-clause-can : goal.returns-clause-can
 returns-clause-can c =

@@ -2,7 +2,9 @@ use Rattle.std.proofs.Common.{IfOk, refl, subst}
 use Rattle.std.proofs.lemmas.Result.{IfOk-weaker}
 use Rattle.roc_server.specs.declared.starts.Request.{Request}
 use Rattle.roc_step.specs.Fits.{AreGroupsOf}
+use Rattle.roc_step.specs.Lists.{after_ended}
 use Rattle.roc_server.specs.Inner.Parts.{state_behind, state_of}
+use Rattle.roc_server.specs.Inner.Shown.{ShowsStep}
 use Rattle.roc_server.specs.Inner.Starts.{asked, StartTaken}
 use Rattle.roc_server_lists.specs.ListsNow.{over_of}
 use Rattle.roc_server.proofs.MessageSteps.{start_comes, commit_comes, known_comes, fetch_comes, ended_comes, settled_comes, read_comes}
@@ -41,14 +43,17 @@ returns-in-Known-clause-step c =
 pub returns-in-Ended-clause-step : goal.returns-in-Ended-clause-step
 returns-in-Ended-clause-step c =
     let k = c.args.parts.now in
-    ended_comes c.args.plan.now (state_of c.args.shard k) (state_behind c.args.shard c.try_ended.new.parts) k.lists.decided c.requires.sound.lists.decided c.args.sends.now c.args.sends.now c.try_ended.result c.args.msg.now
-    c.in-Ended.coord c.in-Ended.below c.in-Ended.is c.try_ended.ensures.step
+    let sends = c.args.sends.now in
+    ended_comes c.args.plan.now (state_of c.args.shard k) (state_behind c.args.shard c.try_ended.new.parts) k.lists.decided c.requires.sound.lists.decided sends sends c.try_ended.result c.args.msg.now
+    c.in-Ended.coord c.in-Ended.below c.in-Ended.is
+    (IfOk-weaker c.try_ended.result _ (λ a. ShowsStep (after_ended (state_of c.args.shard k) c.in-Ended.coord c.in-Ended.below) a (state_behind c.args.shard c.try_ended.new.parts) sends sends)
+    (λ a h. h sends) c.try_ended.ensures.step)
 
 pub returns-in-Ended-clause-fits : goal.returns-in-Ended-clause-fits
 returns-in-Ended-clause-fits c =
     let state = state_behind c.args.shard c.try_ended.new.parts in
     IfOk-weaker c.try_ended.result _ (λ a. AreGroupsOf c.args.plan.now state.started)
-    (λ a h. heard_fits c.args.plan.now (state_of c.args.shard c.args.parts.now) state c.in-Ended.coord c.in-Ended.below a c.args.sends.now c.args.sends.now h c.requires.fits)
+    (λ a h. heard_fits c.args.plan.now (state_of c.args.shard c.args.parts.now) state c.in-Ended.coord c.in-Ended.below a c.args.sends.now c.args.sends.now (h c.args.sends.now) c.requires.fits)
     c.try_ended.ensures.step
 
 pub returns-in-Settled-clause-step : goal.returns-in-Settled-clause-step
