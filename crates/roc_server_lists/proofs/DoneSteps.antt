@@ -69,7 +69,8 @@ module _ (shard : Shard) (started : List StartedGroup) (below : List ℕ) (known
       ap (map (λ (d : Dependency). d.from))
       (filter_alike (is_done_with shard started below known) (λ (d : Dependency). is_done_at shard started below (known ++ news) d.from) (united (all_entries news)) with_news)
 
--- an entry that tells of a lower shard than this one does not tell that they are
+-- ---- they are not done where it is of a lower shard than this one
+
 unequal : (a n own : ℕ) → a ≤ n → n < own → (a == own) ≡ false
 unequal a n own le lt = grind (arith, nat_tests)
 

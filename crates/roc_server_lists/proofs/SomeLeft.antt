@@ -44,7 +44,7 @@ any_some {A = A} id_of forgotten t n xs = same_tests (list_any is (filter stays 
         let x = any_has is xs e in
         has_any is (filter stays xs) x.0 (has_filter stays x.0 xs x.1 (not_from_false (forgotten (id_of x.0)) (ap forgotten (is_txn-true (id_of x.0) t x.2) ∙ n))) x.2
 
--- a rising list of ids lists no others
+-- a rising list of these lists the same
 pub rising_lists : (all ids : List TxnId) → IsRisingListOf (IsListed is_txn all) ids → (t : TxnId) → is_listed is_txn ids t ≡ is_listed is_txn all t
 rising_lists all ids are t =
     same_tests (is_listed is_txn ids t) (is_listed is_txn all t)

@@ -43,6 +43,7 @@ fn is_done_with(shard: Shard, parts: &ListParts, started: &StartedGroups, edge: 
     let id = edge.from();
     let own = u16::from(shard.0);
     let told = u16::from(edge.at().0);
+    // The least is no higher, and the lists need not be looked through for it.
     if told < own {
         return false;
     }

@@ -25,7 +25,7 @@ use Rattle.roc_server_lists.specs.ListsNow.{is_missing_at}
 
 -- ---- what the definitions say of a state, by the parts of it that they look at
 
--- entries of this transaction are done once lists are known
+-- entries of this transaction are done by what these lists tell
 abbrev pub is_done_at : Shard → List StartedGroup → (below : List ℕ) → (known : List KnownList) → TxnId → Bool
 is_done_at shard started below known id = is_ended below id && (not (is_here id started) && least_naming id (suc shard.0) (all_entries known) == shard.0)
 
