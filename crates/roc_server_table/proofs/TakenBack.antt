@@ -1,7 +1,7 @@
 -- Lists of transactions that are not decided are taken back
-use Rattle.std.proofs.Common.{◌≡◌, ◌≢◌, ◌<◌, ◌+◌, ◌||◌, ℕ, Bool, true, false, cond, not, List, [], ◌∷◌, ◌++◌, length, take, get_or, filter, Option, Some, None}
+use Rattle.std.proofs.Common.{◌≡◌, ◌≢◌, ◌<◌, ◌+◌, ◌||◌, ◌&&◌, inl, inr, ℕ, Bool, true, false, cond, not, List, [], ◌∷◌, ◌++◌, length, take, get_or, filter, Option, Some, None}
 use Rattle.std.proofs.Common.{is_some, refl, sym, ap, ◌∙◌, subst, arith}
-use Rattle.std.proofs.lemmas.Bool.{false≢true}
+use Rattle.std.proofs.lemmas.Bool.{false≢true, and_parts}
 use Rattle.std.specs.Map.{lookup}
 use Rattle.roc_sequence.specs.Lists.{Has}
 use Rattle.roc_sequence.specs.Places.{is_listed}
@@ -41,9 +41,65 @@ module _ (p : Parts) (marks new : List Mark) (k : IsKept p marks) (w : WakesAll 
       let within = decided_within p.numbers.entries p.rows.items p.stamp k.whole marks k.marked in
       decided_same p.rows.items p.rows.items marks new w.same (λ n d. (refl, within n d, within n d))
 
+-- ---- what is undecided is cut to what is open
+
+-- rows and their marks are kept right once the list of what is undecided is cut
+pub record IsKeptOnceCut (parts : Parts) (marks : List Mark) : Type 0 where
+  pub whole : AreWhole parts
+  pub marked : AreMarked parts.rows.items marks
+  pub each : length marks ≡ length parts.rows.items
+  pub undecided : AreOpen parts.rows.items marks (filter (is_open parts.rows.items marks) parts.undecided.items)
+
+all_stay : (p : ℕ → Bool) (ns : List ℕ) → ((n : ℕ) → Has n ns → p n ≡ true) → filter p ns ≡ ns
+all_stay p [] h = refl
+all_stay p (n ∷ ns) h = ap (λ b. cond b (n ∷ filter p ns) (filter p ns)) (h n (inl refl)) ∙ ap (λ xs. n ∷ xs) (all_stay p ns (λ m k. h m (inr k)))
+
+cut_again : (p q : ℕ → Bool) → ((n : ℕ) → p n ≡ true → q n ≡ true) → (ns : List ℕ) → filter p (filter q ns) ≡ filter p ns
+cut_again p q more [] = refl
+cut_again p q more (n ∷ ns) = go (p n) (q n) refl refl (cut_again p q more ns)
+  where
+    go : (b d : Bool) → p n ≡ b → q n ≡ d → filter p (filter q ns) ≡ filter p ns → filter p (cond d (n ∷ filter q ns) (filter q ns)) ≡ cond b (n ∷ filter p ns) (filter p ns)
+    go true true e f ih = ap (λ v. cond v (n ∷ filter p (filter q ns)) (filter p (filter q ns))) e ∙ ap (λ xs. n ∷ xs) ih
+    go false true e f ih = ap (λ v. cond v (n ∷ filter p (filter q ns)) (filter p (filter q ns))) e ∙ ih
+    go true false e f ih = absurd (false≢true (sym f ∙ more n e))
+    go false false e f ih = ih
+
+pub once_cut : (p : Parts) (marks : List Mark) → IsKept p marks → IsKeptOnceCut p marks
+once_cut p marks k =
+    record {
+      whole = k.whole;
+      marked = k.marked;
+      each = k.each;
+      undecided = subst (AreOpen p.rows.items marks) (sym (all_stay (is_open p.rows.items marks) p.undecided.items all_open)) k.undecided;
+    }
+  where
+    all_open : (n : ℕ) → Has n p.undecided.items → is_open p.rows.items marks n ≡ true
+    all_open n h = let o = k.undecided.only n h in ap (λ b. not b && is_told (row_in p.rows.items n)) o.undecided ∙ o.told
+
+-- once it is cut, it is kept
+pub cut_kept : (p q : Parts) (marks : List Mark) → IsKeptOnceCut p marks → AreWhole q → q.rows.items ≡ p.rows.items
+    → q.undecided.items ≡ filter (is_open p.rows.items marks) p.undecided.items → IsKept q marks
+cut_kept p q marks k whole same left =
+    record {
+      whole = whole;
+      marked = subst (λ (rs : List Row). AreMarked rs marks) (sym same) k.marked;
+      each = k.each ∙ ap length (sym same);
+      undecided = subst (λ (rs : List Row). AreOpen rs marks q.undecided.items) (sym same) (subst (AreOpen p.rows.items marks) (sym left) k.undecided);
+    }
+
+-- rows lose lists while none waits
+cut_back : (old new : List Row) (marks : List Mark) (us vs : List ℕ) → vs ≡ us → AreOpen old marks (filter (is_open old marks) us) → ((n : ℕ) → (mark_in marks n).waits.birth ≡ 0)
+    → ((n : ℕ) → is_told (row_in new n) ≡ true → is_told (row_in old n) ≡ true) → AreOpen new marks (filter (is_open new marks) vs)
+cut_back old new marks us vs same o awake told =
+    subst (AreOpen new marks) (cut_again (is_open new marks) (is_open old marks) less us ∙ ap (filter (is_open new marks)) (sym same))
+    (open_back old new marks (filter (is_open old marks) us) o awake told)
+  where
+    less : (n : ℕ) → is_open new marks n ≡ true → is_open old marks n ≡ true
+    less n e = let w = and_parts (not (mark_in marks n).decided) (is_told (row_in new n)) e in ap (λ b. b && is_told (row_in old n)) w.0 ∙ told n w.1
+
 -- ---- one list is taken back
 
-module _ (p q : Parts) (marks : List Mark) (k : IsKept p marks) (awake : (n : ℕ) → (mark_in marks n).waits.birth ≡ 0) (id : TxnId) (n : ℕ) (here : lookup (is_txn id) p.numbers.entries ≡ Some n)
+module _ (p q : Parts) (marks : List Mark) (k : IsKeptOnceCut p marks) (awake : (n : ℕ) → (mark_in marks n).waits.birth ≡ 0) (id : TxnId) (n : ℕ) (here : lookup (is_txn id) p.numbers.entries ≡ Some n)
     (undecided : is_listed is_txn (decided_of p.rows.items marks) id ≡ false) (whole : AreWhole q) (b : IsTakenBack n p.rows.items q.rows.items)
     (each : length q.rows.items ≡ length p.rows.items) where
   abbrev old : List Row
@@ -57,8 +113,8 @@ module _ (p q : Parts) (marks : List Mark) (k : IsKept p marks) (awake : (n : �
       let own : (mark_in marks n).decided ≡ false = sym (decided_at p.numbers.entries old p.stamp k.whole marks k.marked id n here) ∙ undecided in
       false≢true (sym own ∙ (ap (λ j. (mark_in marks j).decided) (sym e) ∙ d))
 
-  pub back_kept : q.undecided.items ≡ filter (is_open new marks) p.undecided.items → IsKept q marks
-  back_kept left =
+  pub back_cut : q.undecided.items ≡ p.undecided.items → IsKeptOnceCut q marks
+  back_cut stays =
       record {
         whole = whole;
         marked = record {
@@ -68,7 +124,7 @@ module _ (p q : Parts) (marks : List Mark) (k : IsKept p marks) (awake : (n : �
           waits = λ m w. absurd (let z = awake m in omega (arith, z, w));
         };
         each = k.each ∙ sym each;
-        undecided = subst (AreOpen new marks) (sym left) (open_back old new marks p.undecided.items k.undecided awake told);
+        undecided = cut_back old new marks p.undecided.items q.undecided.items stays k.undecided awake told;
       }
     where
       told : (m : ℕ) → is_told (row_in new m) ≡ true → is_told (row_in old m) ≡ true
@@ -82,24 +138,23 @@ module _ (p q : Parts) (marks : List Mark) (k : IsKept p marks) (awake : (n : �
       (ap (λ (r : Row). r.id) (b.others m (apart m d)), within, omega (arith, within, each)))
 
 -- whether it has a row or not
-module _ (p q : Parts) (marks : List Mark) (k : IsKept p marks) (awake : (n : ℕ) → (mark_in marks n).waits.birth ≡ 0) (id : TxnId)
+module _ (p q : Parts) (marks : List Mark) (k : IsKeptOnceCut p marks) (awake : (n : ℕ) → (mark_in marks n).waits.birth ≡ 0) (id : TxnId)
     (undecided : is_listed is_txn (decided_of p.rows.items marks) id ≡ false)
     (whole : AreWhole q) (each : length q.rows.items ≡ length p.rows.items)
     (taken : (n : ℕ) → lookup (is_txn id) p.numbers.entries ≡ Some n → IsTakenBack n p.rows.items q.rows.items)
     (same : lookup (is_txn id) p.numbers.entries ≡ None → q.rows.items ≡ p.rows.items) where
-  pub untold_kept : q.undecided.items ≡ filter (is_open q.rows.items marks) p.undecided.items → IsKept q marks
-  untold_kept left = go (lookup (is_txn id) p.numbers.entries) refl
+  pub untold_cut : q.undecided.items ≡ p.undecided.items → IsKeptOnceCut q marks
+  untold_cut stays = go (lookup (is_txn id) p.numbers.entries) refl
     where
-      go : (o : Option ℕ) → lookup (is_txn id) p.numbers.entries ≡ o → IsKept q marks
+      go : (o : Option ℕ) → lookup (is_txn id) p.numbers.entries ≡ o → IsKeptOnceCut q marks
       go None e =
           record {
             whole = whole;
             marked = subst (λ (rs : List Row). AreMarked rs marks) (sym (same e)) k.marked;
             each = k.each ∙ sym each;
-            undecided = subst (AreOpen q.rows.items marks) (sym left)
-                (open_back p.rows.items q.rows.items marks p.undecided.items k.undecided awake (λ m t. ap (λ (rs : List Row). is_told (row_in rs m)) (sym (same e)) ∙ t));
+            undecided = cut_back p.rows.items q.rows.items marks p.undecided.items q.undecided.items stays k.undecided awake (λ m t. ap (λ (rs : List Row). is_told (row_in rs m)) (sym (same e)) ∙ t);
           }
-      go (Some n) e = back_kept p q marks k awake id n e undecided whole (taken n e) each left
+      go (Some n) e = back_cut p q marks k awake id n e undecided whole (taken n e) each stays
 
   pub untold_decided : decided_of q.rows.items marks ≡ decided_of p.rows.items marks
   untold_decided = go (lookup (is_txn id) p.numbers.entries) refl

@@ -16,7 +16,7 @@ ghost use Rattle.roc_server_rows.specs.Changes.{lists_ended, untold, with_list};
 ghost use Rattle.roc_server_table.specs.Inner.Changes.{all_ended, all_untold};
 ghost use Rattle.roc_server_rows.specs.Rows.{known_of, row_links, lists_by, Grows, AreWhole};
 ghost use Rattle.roc_server_rows.specs.Marks.{no_mark, mark_in, AreMarked, AreOpen, IsLearnt, IsOut, IsTakenBack};
-ghost use Rattle.roc_server_table.specs.Inner.Leading.{AreKept, LeadsBut};
+ghost use Rattle.roc_server_table.specs.Inner.Leading.{AreBits, AreKept, LeadsBut};
 ghost use Rattle.roc_server_table.specs.Inner.Kept.{decided_of, table_of, AreDecidedToo, IsDecidedAt, IsFilled, IsKept, Settles};
 
 use crate::leading::note_row;
@@ -177,7 +177,7 @@ pub(crate) fn unlearn_all(
     untell_all(parts, marks, bits, news);
 }
 
-// Takes lists back, where no row waits.
+// Takes lists back, where no row waits. It looks once at what is undecided.
 fn untell_all(parts: &mut Parts, marks: &[Mark], bits: &mut BitRows, news: &[KnownList])
     requires kept { AreKept parts.old marks.now bits.old }
     requires awake { (n : ℕ) → (mark_in marks.now n).waits.birth ≡ 0 }
@@ -187,25 +187,29 @@ fn untell_all(parts: &mut Parts, marks: &[Mark], bits: &mut BitRows, news: &[Kno
     ensures decided { decided_of parts.new.rows.items marks.now ≡ decided_of parts.old.rows.items marks.now }
 {
     for k in news {
-        untell_noted(parts, marks, bits, k.of);
+        untell_noted(parts, bits, k.of);
     }
+    keep_open(&mut parts.undecided, &parts.rows, marks);
 }
 
 // Takes one list back, and what was noted of its row.
-fn untell_noted(parts: &mut Parts, marks: &[Mark], bits: &mut BitRows, id: TxnId)
-    requires kept { AreKept parts.old marks.now bits.old }
-    requires awake { (n : ℕ) → (mark_in marks.now n).waits.birth ≡ 0 }
-    requires undecided { is_listed is_txn (decided_of parts.old.rows.items marks.now) id ≡ false }
-    ensures kept { AreKept parts.new marks.now bits.new }
+fn untell_noted(parts: &mut Parts, bits: &mut BitRows, id: TxnId)
+    requires whole { AreWhole parts.old }
+    requires bits { AreBits parts.old.rows.items bits.old }
+    ensures whole { AreWhole parts.new }
+    ensures undecided { parts.new.undecided ≡ parts.old.undecided }
     ensures lists { lists_by parts.new.rows.items ≡ untold id (lists_by parts.old.rows.items) }
-    ensures decided { decided_of parts.new.rows.items marks.now ≡ decided_of parts.old.rows.items marks.now }
+    ensures taken { (n : ℕ) → lookup (is_txn id) parts.old.numbers.entries ≡ Some n → IsTakenBack n parts.old.rows.items parts.new.rows.items }
+    ensures same { lookup (is_txn id) parts.old.numbers.entries ≡ None → parts.new.rows.items ≡ parts.old.rows.items }
+    ensures each { length parts.new.rows.items ≡ length parts.old.rows.items }
+    ensures bits { AreBits parts.new.rows.items bits.new }
 {
     match number_of(&parts.numbers, id) {
         Some(at) => {
-            untell_one(parts, marks, id);
+            untell(parts, id);
             bits.clear_row(at);
         }
-        None => untell_one(parts, marks, id),
+        None => untell(parts, id),
     }
 }
 
