@@ -9,7 +9,7 @@ import tempfile
 import time
 from collections.abc import Callable, Iterator
 
-from running import COORDINATOR, ENDED, HOST, cluster, commit, header, link, resident, serve, start, stop, tag_of, written
+from running import COORDINATOR, ENDED, HOST, cluster, commit, header, link, processor_seconds, resident, serve, start, stop, tag_of, written
 
 WORKLOAD = """shards 1;
 table t { x }
@@ -94,6 +94,13 @@ def kept(to: Sender, count: int) -> None:
         to.whole(0, number, 0)
 
 
+def over(to: Sender, first: int, count: int) -> None:
+    """Of another coordinator, which says of each that it is answered: so something is forgotten behind each."""
+    for number in range(first, first + count):
+        to.whole(1, number, 2)
+        to.ended(1, number + 1)
+
+
 # What is open, how often, and what makes it so.
 CASES: list[tuple[str, int, Callable[[Sender, int], None]]] = [
     ("started, each on a cell of its own", 256, apart),
@@ -120,6 +127,24 @@ def fresh(port: int) -> Iterator[tuple[Sender, subprocess.Popen]]:
                 stop(load, nodes)
                 time.sleep(0.05)
             server.communicate()
+
+
+# How many are kept behind one that is not answered, how many of another coordinator follow, and how many more are counted.
+KEPT = (0, 2_500, 10_000, 40_000)
+FIRST, COUNTED = 500, 5_000
+
+
+def told_of_time(port: int) -> Iterator[str]:
+    """A line for each number of transactions that are kept: processor microseconds for each of another coordinator's."""
+    for count in KEPT:
+        with fresh(port) as (to, server):
+            kept(to, count)
+            over(to, 0, FIRST)
+            before = processor_seconds(server)
+            over(to, FIRST, COUNTED)
+            to.whole(*PROBE, -1)
+            spent = processor_seconds(server) - before
+        yield f"{count:7} {spent * 1e6 / COUNTED:10.1f}"
 
 
 def told(port: int) -> Iterator[str]:

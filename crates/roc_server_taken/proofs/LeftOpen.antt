@@ -4,14 +4,13 @@ use Rattle.std.proofs.lemmas.Bool.{false≢true}
 use Rattle.std.specs.Prelude.{◌⊎◌}
 use Rattle.std.specs.List.{AllByRecursion}
 use Rattle.roc_sequence.specs.Lists.{Has}
-use Rattle.roc_sequence.specs.Rising.{IsRising}
 use Rattle.roc_sequence.proofs.Holds.{all_has, all_weaker, every_has, has_all}
 use Rattle.roc_sequence.proofs.Members.{has_append, has_left, has_right}
 use Rattle.roc_base.specs.declared.id.TxnId.{TxnId}
 use Rattle.roc_server_taken.specs.declared.components.Component.{Component}
 use Rattle.roc_step.specs.Below.{is_ended}
 use Rattle.roc_step.specs.Forgets.{is_over}
-use Rattle.roc_server_taken.specs.Inner.Over.{by_turn, is_not_ahead, is_not_over, is_under, members_by_turn, put_turned}
+use Rattle.roc_server_taken.specs.Inner.Over.{by_turn, is_not_over, is_under, members_by_turn, put_turned}
 use Rattle.roc_server_taken.specs.Inner.Over.{turned_component, AreBefore, AreStanding, HaveOwnTurns, IsPutBetween, LeavesOpen, TurnedComponent}
 use Rattle.roc_server_taken.proofs.Ended.{coord_within, ended_here}
 use Rattle.roc_server_taken.proofs.TurnOrder.{all_between, all_pass, from_all_between, from_turns_between, members_left, put_between, put_last, put_lost, turned_all, turns_between}
@@ -33,10 +32,10 @@ module _ (x : Component) (old new : List Component) (p : IsPutBetween x old new)
   put_is : AllByRecursion IsApart old → by_turn new ≡ put_turned (turned_component x) (by_turn old)
   put_is a = ap by_turn p.is ∙ put_between x p.before p.behind (subst (AllByRecursion IsApart) p.was a) ∙ ap (λ l. put_turned (turned_component x) (by_turn l)) (sym p.was)
 
-  all_put : (P : Component → Type 0) → P x → AllByRecursion P old → AllByRecursion P new
+  pub all_put : (P : Component → Type 0) → P x → AllByRecursion P old → AllByRecursion P new
   all_put P h a = subst (AllByRecursion P) (sym p.is) (all_between P x p.before p.behind h (subst (AllByRecursion P) p.was a))
 
-  put_all : (P : Component → Type 0) → AllByRecursion P new → P x × AllByRecursion P old
+  pub put_all : (P : Component → Type 0) → AllByRecursion P new → P x × AllByRecursion P old
   put_all P a = let k = from_all_between P x p.before p.behind (subst (AllByRecursion P) p.is a) in (k.0, subst (AllByRecursion P) (sym p.was) k.1)
 
   still_has : (c : Component) → Has c old → Has c new
@@ -55,15 +54,15 @@ module _ (x : Component) (old new : List Component) (p : IsPutBetween x old new)
       ]
 
   -- one more stands
-  stands_more : AreStanding old → IsRising is_not_ahead new → Has x.under x.members → AllByRecursion IsApart old → AreStanding new
-  stands_more s r h a = record { rising = r; among = all_put (λ c. Has c.under c.members) h s.among; turns = apart_put a s.turns }
+  stands_more : AreStanding old → Has x.under x.members → AllByRecursion IsApart old → AreStanding new
+  stands_more s h a = record { among = all_put (λ c. Has c.under c.members) h s.among; turns = apart_put a s.turns }
 
   -- one that has the last turn is the last
-  pub put_behind : AreStanding old → IsRising is_not_ahead new → Has x.under x.members → AreBefore x.turn old
+  pub put_behind : AreStanding old → Has x.under x.members → AreBefore x.turn old
       → AreStanding new × (AreBefore (x.turn + 1) new × (members_by_turn new ≡ members_by_turn old ++ x.members ∷ []))
-  put_behind s r h b =
+  put_behind s h b =
       let apart : AllByRecursion IsApart old = all_weaker (λ (c : Component). c.turn < x.turn) IsApart (λ c l e. absurd (omega (arith, l, e))) old b in (
-        stands_more s r h apart,
+        stands_more s h apart,
         (
           all_put (λ c. c.turn < x.turn + 1) (omega arith) (all_weaker (λ (c : Component). c.turn < x.turn) (λ c. c.turn < x.turn + 1) (λ c l. omega arith) old b),
           ap (map (λ (y : TurnedComponent). y.members)) (put_is apart ∙ put_last (turned_component x) (by_turn old) (turned_all (λ y. y.turn < x.turn) old b))
@@ -78,7 +77,7 @@ module _ (x : Component) (old new : List Component) (p : IsPutBetween x old new)
 -- ---- how many pass
 
 module _ (p : Component → Bool) where
-  count_between : (x : Component) (xs ys : List Component) → p x ≡ true → length (filter p (xs ++ x ∷ ys)) ≡ suc (length (filter p (xs ++ ys)))
+  pub count_between : (x : Component) (xs ys : List Component) → p x ≡ true → length (filter p (xs ++ x ∷ ys)) ≡ suc (length (filter p (xs ++ ys)))
   count_between x [] ys e = ap (λ b. length (cond b (x ∷ filter p ys) (filter p ys))) e
   count_between x (a ∷ xs) ys e = go (p a) (count_between x xs ys e)
     where
@@ -87,7 +86,7 @@ module _ (p : Component → Bool) where
       go true h = ap suc h
       go false h = h
 
-  none_between : (x : Component) (xs ys : List Component) → p x ≡ false → filter p (xs ++ x ∷ ys) ≡ filter p (xs ++ ys)
+  pub none_between : (x : Component) (xs ys : List Component) → p x ≡ false → filter p (xs ++ x ∷ ys) ≡ filter p (xs ++ ys)
   none_between x [] ys e = ap (λ b. cond b (x ∷ filter p ys) (filter p ys)) e
   none_between x (a ∷ xs) ys e = ap (λ l. cond (p a) (a ∷ l) l) (none_between x xs ys e)
 
@@ -101,9 +100,26 @@ module _ (p : Component → Bool) where
   none_more_passes x old new put e =
       ap (λ l. length (filter p l)) put.is ∙ ap length (none_between x put.before put.behind e) ∙ ap (λ l. length (filter p l)) (sym put.was)
 
+  -- one passes no more, and another never did
+  pub fewer_moved : (x y : Component) (old rest new : List Component) → IsPutBetween x rest old → IsPutBetween y rest new → p x ≡ true → p y ≡ false → length (filter p new) < length (filter p old)
+  fewer_moved x y old rest new out put e n = omega (arith, one_more_passes x rest old out e, none_more_passes y rest new put n)
+
+  pub fewer_from : (now old new : List Component) → old ≡ now → length (filter p new) < length (filter p old) → length (filter p new) < length (filter p now)
+  fewer_from now old new e h = subst (λ cs. length (filter p new) < length (filter p cs)) e h
+
 -- ---- what is left
 
 module _ (below : List ℕ) where
+  -- nothing is left out
+  pub left_same : (cs : List Component) → AreStanding cs → LeavesOpen below cs cs
+  left_same cs s = record { left = refl; standing = s; before = λ n b. b; ended = λ c has e. has }
+
+  pub left_from : (now old new : List Component) → old ≡ now → LeavesOpen below old new → LeavesOpen below now new
+  left_from now old new e h = subst (λ cs. LeavesOpen below cs new) e h
+
+  pub left_to : (old now new : List Component) → new ≡ now → LeavesOpen below old new → LeavesOpen below old now
+  left_to old now new e h = subst (LeavesOpen below old) e h
+
   pub left_on : (a b c : List Component) → LeavesOpen below a b → LeavesOpen below b c → LeavesOpen below a c
   left_on a b c h k = record {
     left = k.left ∙ h.left;
@@ -112,12 +128,12 @@ module _ (below : List ℕ) where
     ended = λ d has e. h.ended d (k.ended d has e) e;
   }
 
-  module _ (x : Component) (old rest : List Component) (s : AreStanding old) (out : IsPutBetween x rest old) (rising : IsRising is_not_ahead rest) where
+  module _ (x : Component) (old rest : List Component) (s : AreStanding old) (out : IsPutBetween x rest old) where
     own : AllByRecursion (λ (d : Component). d.turn ≢ x.turn) rest × HaveOwnTurns rest
     own = put_apart x rest old out s.turns
 
-    stands_less : AreStanding rest
-    stands_less = record { rising = rising; among = (put_all x rest old out (λ c. Has c.under c.members) s.among).1; turns = own.1 }
+    pub stands_less : AreStanding rest
+    stands_less = record { among = (put_all x rest old out (λ c. Has c.under c.members) s.among).1; turns = own.1 }
 
     -- it is over, and goes
     pub goes : is_over below x.members ≡ true → LeavesOpen below old rest
@@ -130,15 +146,15 @@ module _ (below : List ℕ) where
 
     -- it stands under another member, that is not ended
     pub moves : (id : TxnId) (y : Component) (new : List Component) → y ≡ record { under = id; turn = x.turn; members = x.members }
-        → IsPutBetween y rest new → IsRising is_not_ahead new → Has id x.members → is_ended below id ≡ false → LeavesOpen below old new
-    moves id y new is put r h n =
+        → IsPutBetween y rest new → Has id x.members → is_ended below id ≡ false → LeavesOpen below old new
+    moves id y new is put h n =
         let turn : y.turn ≡ x.turn = ap (λ (c : Component). c.turn) is in
         let apart : AllByRecursion (λ (d : Component). d.turn ≢ y.turn) rest = subst (λ t. AllByRecursion (λ (d : Component). d.turn ≢ t) rest) (sym turn) own.0 in
         record {
           left =
               ap (filter (is_not_over below))
               (put_is y rest new put apart ∙ ap (λ (c : Component). put_turned (turned_component c) (by_turn rest)) is ∙ sym (put_is x rest old out own.0));
-          standing = stands_more y rest new put stands_less r (subst (λ (c : Component). Has c.under c.members) (sym is) h) apart;
+          standing = stands_more y rest new put stands_less (subst (λ (c : Component). Has c.under c.members) (sym is) h) apart;
           before = λ n b. let k = put_all x rest old out (λ c. c.turn < n) b in all_put y rest new put (λ c. c.turn < n) (subst (λ t. t < n) (sym turn) k.0) k.1;
           ended = λ c has e.
               elim (had_or_is y rest new put c has) [

@@ -1,6 +1,9 @@
 mod Ended
 mod EndedCount
 mod LeftOpen
+mod Moves
 mod OverAdded
-mod Standing
+mod Parts
+mod Queues
+mod Rising
 mod TurnOrder

@@ -1,18 +1,21 @@
-//! Components as they stand: rising by a member of each, so that those that may be over are found by coordinator and sequence.
-ghost use Rattle.std.specs.Prelude.{◌≡◌, ◌≢◌, ◌+◌, ◌-◌, ◌<◌, ◌≤◌, ◌++◌, ◌∷◌, [], false, true, not, length, take, drop, slice_get, filter, vec_len, vec_capacity, ℕ};
-ghost use Rattle.std.specs.Prelude.{Some, IfNone, IfSome, OnOk, if◌then◌else◌};
+//! Components as they stand in one part: rising by a member of each, so that those that may be over come first.
+ghost use Rattle.std.specs.Prelude.{◌≡◌, ◌≢◌, ◌+◌, ◌<◌, ◌≤◌, ◌++◌, ◌∷◌, [], List, false, true, length, take, drop, filter};
+ghost use Rattle.std.specs.Prelude.{IfNone, IfSome, OnOk, if◌then◌else◌};
 ghost use Rattle.std.specs.List.{AllByRecursion};
+ghost use Rattle.std.specs.VecDeque.{deque_len, deque_capacity};
 ghost use Rattle.roc_sequence.specs.Lists.{Has};
 ghost use Rattle.roc_sequence.specs.Rising.{IsRising};
 ghost use Rattle.roc_base.specs.TxnId.{txn_lt};
 ghost use Rattle.roc_step.specs.Below.{is_ended};
-ghost use Rattle.roc_server_taken.specs.declared.components.Component.{Component as Seen};
 ghost use Rattle.roc_step.specs.Forgets.{is_over};
-ghost use Rattle.roc_server_taken.specs.Inner.Over.{is_not_ahead, is_under, members_by_turn, turns_left, AreBefore, AreStanding, IsPutBetween, LeavesOpen};
+ghost use Rattle.roc_server_taken.specs.declared.components.Component.{Component as Seen};
+ghost use Rattle.roc_server_taken.specs.Inner.Over.{is_not_ahead, is_under, IsPutBetween};
+ghost use Rattle.roc_server_taken.specs.Inner.Standing.{StandAt};
 
 use crate::marks::Marks;
 use roc_base::{NoMemory, TxnId};
 use roc_sequence::Sequence;
+use std::collections::VecDeque;
 
 // A component: the member under which it stands, its turn among those that were taken, and its members.
 #[derive(Drop)]
@@ -23,70 +26,66 @@ pub(crate) struct Component {
 }
 
 // How many stand under members that come before an id.
-fn count_before(components: &[Component], id: TxnId) -> usize
-    requires { IsRising is_not_ahead components.now }
-    ensures within { result ≤ length components.now }
-    ensures before { AllByRecursion (λ c. txn_lt c.under id ≡ true) (take result components.now) }
-    ensures behind { AllByRecursion (λ c. txn_lt c.under id ≡ false) (drop result components.now) }
+fn count_before(components: &VecDeque<Component>, id: TxnId) -> usize
+    requires { IsRising is_not_ahead components.now.items }
+    ensures within { result ≤ deque_len components.now }
+    ensures before { AllByRecursion (λ c. txn_lt c.under id ≡ true) (take result components.now.items) }
+    ensures behind { AllByRecursion (λ c. txn_lt c.under id ≡ false) (drop result components.now.items) }
 {
     components.partition_point(|component| component.under < id)
 }
 
-// Puts one into its place, where there is room for it.
-fn put(components: &mut Vec<Component>, component: Component)
+// Puts one into its place, where there is room for it. Of those that stand there, the fewer move: before it or behind it.
+pub(crate) fn put(components: &mut VecDeque<Component>, component: Component)
     requires rising { IsRising is_not_ahead components.old.items }
-    requires room { vec_len components.old < vec_capacity components.old }
+    requires room { deque_len components.old < deque_capacity components.old }
     ensures put { IsPutBetween component components.old.items components.new.items }
     ensures rising { IsRising is_not_ahead components.new.items }
-    ensures len { vec_len components.new ≡ vec_len components.old + 1 }
-    ensures capacity { vec_capacity components.old ≤ vec_capacity components.new }
+    ensures capacity { deque_capacity components.old ≤ deque_capacity components.new }
 {
     let at = count_before(components, component.under);
     components.insert(at, component).unwrap();
 }
 
-// Takes one out.
-fn take_out(components: &mut Vec<Component>, at: usize) -> Component
-    requires rising { IsRising is_not_ahead components.old.items }
-    requires within { at < length components.old.items }
-    ensures is { slice_get components.old.items at ≡ Some result }
-    ensures out { IsPutBetween result components.new.items components.old.items }
-    ensures rising { IsRising is_not_ahead components.new.items }
-    ensures room { vec_len components.new < vec_capacity components.new }
+// How many stand under ended members of a coordinator: they come first.
+pub(crate) fn count_ended(components: &VecDeque<Component>, marks: &Marks, coord: u16) -> usize
+    requires coord { coord < 16 }
+    requires part { StandAt coord components.now.items }
+    ensures within { result ≤ deque_len components.now }
+    ensures first { take result components.now.items ≡ filter (is_under marks.now coord) components.now.items }
 {
-    components.remove(at)
+    components.partition_point(|component| is_under(component, marks, coord))
 }
 
-// Those that stand under ended members of a coordinator.
-pub(crate) fn ended_under<'a>(
-    components: &'a [Component],
+// Takes out the first, where it stands under an ended member of a coordinator. Where it does not, none does.
+pub(crate) fn take_ended(
+    components: &mut VecDeque<Component>,
     marks: &Marks,
     coord: u16,
-) -> &'a [Component]
-    requires { IsRising is_not_ahead components.now }
-    ensures { result.now ≡ filter (is_under marks.now coord) components.now }
+) -> Option<Component>
+    requires coord { coord < 16 }
+    requires part { StandAt coord components.old.items }
+    ensures some { IfSome result (λ c. (components.old.items ≡ c ∷ components.new.items) × (is_under marks.now coord c ≡ true)) }
+    ensures none { IfNone result ((components.new.items ≡ components.old.items) × AllByRecursion (λ c. is_under marks.now coord c ≡ false) components.old.items) }
+    ensures capacity { deque_capacity components.new ≡ deque_capacity components.old }
 {
-    let from = count_before(components, TxnId { coord, seq: 0 });
-    let seq = marks.of(coord);
-    let len = count_before(&components[from..], TxnId { coord, seq });
-    &components[from..][..len]
-}
-
-// Where one stands under an ended member of a coordinator, where there is one.
-fn first_under(components: &[Component], marks: &Marks, coord: u16) -> Option<usize>
-    requires { IsRising is_not_ahead components.now }
-    ensures some { IfSome result (λ at. at < length components.now) }
-    ensures under { IfSome result (λ at. (c : Seen) → slice_get components.now at ≡ Some c → is_under marks.now coord c ≡ true) }
-    ensures none { IfNone result (AllByRecursion (λ c. is_under marks.now coord c ≡ false) components.now) }
-{
-    let at = count_before(components, TxnId { coord, seq: 0 });
-    if at == components.len() {
+    if !starts_ended(components, marks, coord) {
         return None;
     }
-    if is_under(&components[at], marks, coord) {
-        return Some(at);
+    components.pop_front()
+}
+
+// Whether the first stands under an ended member of a coordinator.
+fn starts_ended(components: &VecDeque<Component>, marks: &Marks, coord: u16) -> bool
+    requires coord { coord < 16 }
+    requires part { StandAt coord components.now.items }
+    ensures first { (c : Seen) (rest : List Seen) → components.now.items ≡ c ∷ rest → is_under marks.now coord c ≡ result }
+    ensures none { result ≡ false → AllByRecursion (λ c. is_under marks.now coord c ≡ false) components.now.items }
+{
+    match components.front() {
+        Some(component) => is_under(component, marks, coord),
+        None => false,
     }
-    None
 }
 
 // Whether it stands under an ended member of this coordinator.
@@ -97,7 +96,7 @@ fn is_under(component: &Component, marks: &Marks, coord: u16) -> bool
 }
 
 // A member that is not ended, where there is one.
-fn open_member(marks: &Marks, members: &[TxnId]) -> Option<TxnId>
+pub(crate) fn open_member(marks: &Marks, members: &[TxnId]) -> Option<TxnId>
     ensures some { IfSome result (λ id. Has id members.now × (is_ended marks.now id ≡ false)) }
     ensures none { IfNone result (is_over marks.now members.now ≡ true) }
 {
@@ -110,7 +109,7 @@ fn open_member(marks: &Marks, members: &[TxnId]) -> Option<TxnId>
 }
 
 // A member that is not ended, where there is one, and else the first.
-fn open_or_first(marks: &Marks, members: &[TxnId]) -> TxnId
+pub(crate) fn open_or_first(marks: &Marks, members: &[TxnId]) -> TxnId
     requires { members.now ≢ [] }
     ensures { Has result members.now }
 {
@@ -118,102 +117,6 @@ fn open_or_first(marks: &Marks, members: &[TxnId]) -> TxnId
         Some(id) => id,
         None => members[0],
     }
-}
-
-// One that stands under an ended member goes where it is over, and else stands under a member that is not ended.
-fn move_or_drop(components: &mut Vec<Component>, marks: &Marks, at: usize)
-    requires standing { AreStanding components.old.items }
-    requires within { at < length components.old.items }
-    requires ended { (c : Seen) → slice_get components.old.items at ≡ Some c → is_ended marks.now c.under ≡ true }
-    ensures left { LeavesOpen marks.now components.old.items components.new.items }
-    ensures fewer { length (filter (λ c. is_ended marks.now c.under) components.new.items) < length (filter (λ c. is_ended marks.now c.under) components.old.items) }
-{
-    let Component {
-        under: _,
-        turn,
-        members,
-    } = take_out(components, at);
-    if let Some(under) = open_member(marks, members.as_slice()) {
-        put(
-            components,
-            Component {
-                under,
-                turn,
-                members,
-            },
-        );
-    }
-}
-
-// Of those that stand under ended members of a coordinator, those that are over go, and the others stand under members that are not ended.
-fn forget_under(components: &mut Vec<Component>, marks: &Marks, coord: u16)
-    requires { AreStanding components.old.items }
-    ensures left { LeavesOpen marks.now components.old.items components.new.items }
-    ensures none { AllByRecursion (λ c. is_under marks.now coord c ≡ false) components.new.items }
-{
-    while let Some(at) = first_under(components, marks, coord) {
-        move_or_drop(components, marks, at);
-    }
-}
-
-// Those that are over go, and the others stand under members that are not ended: none of them is looked at again before that one is.
-pub(crate) fn forget_over(components: &mut Vec<Component>, marks: &Marks)
-    requires { AreStanding components.old.items }
-    ensures standing { AreStanding components.new.items }
-    ensures before { (turn : ℕ) → AreBefore turn components.old.items → AreBefore turn components.new.items }
-    ensures left { members_by_turn components.new.items ≡ filter (λ m. not (is_over marks.now m)) (members_by_turn components.old.items) }
-    ensures unended { AllByRecursion (λ c. is_ended marks.now c.under ≡ false) components.new.items }
-{
-    for coord in 0..marks.count() {
-        forget_under(components, marks, coord);
-    }
-}
-
-// Takes more, each under a member of its own, one that is not ended where there is one, with a turn behind the others, and answers the next turn.
-// There is room for them, and there are turns.
-pub(crate) fn add_all(
-    components: &mut Vec<Component>,
-    marks: &Marks,
-    mut turn: u64,
-    more: Vec<Sequence<TxnId>>,
-) -> u64
-    requires standing { AreStanding components.old.items }
-    requires before { AreBefore turn components.old.items }
-    requires room { length more.items ≤ vec_capacity components.old - vec_len components.old }
-    requires turns { length more.items ≤ turns_left turn }
-    requires some { AllByRecursion (λ m. m ≢ []) more.items }
-    ensures standing { AreStanding components.new.items }
-    ensures before { AreBefore result components.new.items }
-    ensures members { members_by_turn components.new.items ≡ members_by_turn components.old.items ++ more.items }
-{
-    for members in more {
-        add_one(components, marks, turn, members);
-        turn += 1;
-    }
-    turn
-}
-
-// Takes one more, of the last turn.
-fn add_one(components: &mut Vec<Component>, marks: &Marks, turn: u64, members: Sequence<TxnId>)
-    requires standing { AreStanding components.old.items }
-    requires before { AreBefore turn components.old.items }
-    requires room { vec_len components.old < vec_capacity components.old }
-    requires some { members ≢ [] }
-    ensures standing { AreStanding components.new.items }
-    ensures before { AreBefore (turn + 1) components.new.items }
-    ensures members { members_by_turn components.new.items ≡ members_by_turn components.old.items ++ members ∷ [] }
-    ensures len { vec_len components.new ≡ vec_len components.old + 1 }
-    ensures capacity { vec_capacity components.old ≤ vec_capacity components.new }
-{
-    let under = open_or_first(marks, members.as_slice());
-    put(
-        components,
-        Component {
-            under,
-            turn,
-            members,
-        },
-    );
 }
 
 // Whether all of a component are below the watermarks.

@@ -9,6 +9,8 @@
 mod components;
 mod lent_components;
 mod marks;
+mod room;
+mod standing;
 mod taken;
 
 pub use marks::Marks;

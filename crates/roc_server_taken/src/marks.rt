@@ -44,7 +44,8 @@ impl Marks {
 
     // Of how many coordinators there are watermarks.
     pub(crate) fn count(&self) -> u16
-        ensures { result ≡ length self.now }
+        ensures value { result ≡ length self.now }
+        ensures sixteen { result ≡ 16 }
     {
         // This look lets the proof see how many the invariant says there are.
         let _ = &self.below;

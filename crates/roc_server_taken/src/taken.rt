@@ -1,14 +1,15 @@
 //! The components that were taken, and are not forgotten.
-ghost use Rattle.std.specs.Prelude.{◌≡◌, ◌≢◌, ◌+◌, ◌<◌, ◌≤◌, ◌++◌, [], length, not, filter, IfOk, OnOk};
+ghost use Rattle.std.specs.Prelude.{◌≡◌, ◌≢◌, ◌+◌, ◌<◌, ◌≤◌, ◌++◌, ◌∷◌, [], length, not, filter, IfOk, OnOk};
 ghost use Rattle.std.specs.List.{flat_map, list_any, AllByRecursion};
 ghost use Rattle.roc_step.specs.Below.{is_ended};
 ghost use Rattle.roc_step.specs.Forgets.{is_over, over};
 ghost use Rattle.roc_server_taken.specs.Components.{AreOver};
 ghost use Rattle.roc_server_taken.specs.Inner.Over.{AddsAll};
 
-use crate::components::{Component, add_all, forget_over, push_if_over};
+use crate::components::push_if_over;
 use crate::lent_components::{LentComponents, push_over};
 use crate::marks::Marks;
+use crate::standing::Standing;
 use roc_base::{NoMemory, Steps, TxnId};
 use roc_component::rising;
 use roc_sequence::Sequence;
@@ -19,20 +20,21 @@ use std::sync::ledger::{Blank, Ledger};
 /// The components, in the order in which they were taken, each in its order inside. Those that may be over are found without a look at the others.
 #[derive(Drop)]
 pub struct Taken {
-    components: Vec<Component>,
+    standing: Standing,
     turn: u64,
 }
 
 impl Model for Taken {
-    ghost use Rattle.std.specs.Prelude.{◌-◌, min, vec_len, vec_capacity};
-    ghost use Rattle.roc_server_taken.specs.Inner.Over.{members_by_turn, turns_left, AreBefore, AreStanding};
+    ghost use Rattle.std.specs.Prelude.{min};
     ghost use Rattle.roc_server_taken.specs.Components.{TakenComponents};
+    ghost use Rattle.roc_server_taken.specs.Inner.Over.{members_by_turn, turns_left, AreBefore};
+    ghost use Rattle.roc_server_taken.specs.Inner.Standing.{components_of};
 
     ghost Value = { TakenComponents };
 
-    ghost view = { λ t. record { components = members_by_turn t.components.items; spare = min (vec_capacity t.components - vec_len t.components) (turns_left t.turn) } };
+    ghost view = { λ t. record { components = members_by_turn (components_of t.standing); spare = min t.standing.room (turns_left t.turn) } };
 
-    ghost invariant = { λ t. AreStanding t.components.items × AreBefore t.turn t.components.items };
+    ghost invariant = { λ t. AreBefore t.turn (components_of t.standing) };
 }
 
 impl Taken {
@@ -41,7 +43,7 @@ impl Taken {
         ensures { result.components ≡ [] }
     {
         Taken {
-            components: Vec::new(alloc),
+            standing: Standing::new(alloc),
             turn: 0,
         }
     }
@@ -55,8 +57,7 @@ impl Taken {
         if u64::MAX - self.turn < more as u64 {
             return Err(NoMemory);
         }
-        self.components.reserve(more)?;
-        Ok(())
+        self.standing.reserve(more)
     }
 
     /// Takes more, where there is room. Takes no memory.
@@ -65,14 +66,27 @@ impl Taken {
         requires some { AllByRecursion (λ c. c ≢ []) more.items }
         ensures { self.new.components ≡ self.old.components ++ more.items }
     {
-        self.turn = add_all(&mut self.components, marks, self.turn, more);
+        for members in more {
+            self.add_one(marks, members);
+        }
+    }
+
+    // Takes one more, of the last turn.
+    fn add_one(&mut self, marks: &Marks, members: Sequence<TxnId>)
+        requires room { 0 < self.old.spare }
+        requires some { members ≢ [] }
+        ensures components { self.new.components ≡ self.old.components ++ members ∷ [] }
+        ensures spare { self.new.spare + 1 ≡ self.old.spare }
+    {
+        self.standing.add(marks, self.turn, members);
+        self.turn += 1;
     }
 
     /// Forgets those that are over. Takes no memory.
     pub fn forget(&mut self, marks: &Marks)
         ensures { self.new.components ≡ filter (λ c. not (is_over marks.now c)) self.old.components }
     {
-        forget_over(&mut self.components, marks);
+        self.standing.forget(marks);
     }
 
     // Adds the transactions of those that are over, in any order. A step is one look at a component.
@@ -85,7 +99,7 @@ impl Taken {
         ensures added { OnOk result (AddsAll (over marks.now self.now.components) ids.old.items ids.new.items) }
         ensures steps { steps.new ≤ steps.old + length (filter (list_any (is_ended marks.now)) self.now.components) }
     {
-        let lent = LentComponents::new(&self.components);
+        let lent = LentComponents::new(&self.standing);
         push_over(&lent, marks, ids, steps)
     }
 }

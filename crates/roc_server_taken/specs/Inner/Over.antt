@@ -2,7 +2,6 @@
 use Rattle.std.specs.Prelude.{◌≡◌, ◌≢◌, ◌<◌, ◌-◌, ◌&&◌, ◌==◌, ℕ, Bool, true, not, nat_lt, List, [], ◌∷◌, ◌++◌, ◌⊎◌, map, filter, if◌then◌else◌}
 use Rattle.std.specs.List.{AllByRecursion}
 use Rattle.roc_sequence.specs.Lists.{Has}
-use Rattle.roc_sequence.specs.Rising.{IsRising}
 use Rattle.roc_base.specs.declared.id.TxnId.{TxnId}
 use Rattle.roc_base.specs.TxnId.{txn_lt}
 use Rattle.roc_step.specs.Below.{is_ended}
@@ -47,9 +46,8 @@ abbrev pub HaveOwnTurns : List Component → Type 0
 HaveOwnTurns [] = Unit {0}
 HaveOwnTurns (c ∷ cs) = AllByRecursion (λ d. d.turn ≢ c.turn) cs × HaveOwnTurns cs
 
--- rising by a member of each
+-- each under a member of its own
 pub record AreStanding (cs : List Component) : Type 0 where
-  pub rising : IsRising is_not_ahead cs
   pub among : AllByRecursion (λ c. Has c.under c.members) cs
   pub turns : HaveOwnTurns cs
 

@@ -1,5 +1,5 @@
 use Rattle.std.proofs.Common.{sym, ◌∙◌}
-use Rattle.roc_server_taken.proofs.Standing.{has_place}
+use Rattle.roc_server_taken.proofs.Rising.{has_place}
 use Rattle.roc_server_taken.proofs.components.open_member.Goals as goal
 
 pub returns-then-not-is_ended-clause-some : goal.returns-then-not-is_ended-clause-some

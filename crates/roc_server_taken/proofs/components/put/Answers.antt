@@ -1,11 +1,8 @@
-use Rattle.std.proofs.Common.{◌≡◌, true, false, List, take, drop, insert, sym, subst}
+use Rattle.std.proofs.Common.{◌≡◌, take, drop, insert, sym, subst}
 use Rattle.std.proofs.lemmas.List.{take-append-drop}
-use Rattle.std.specs.List.{AllByRecursion}
 use Rattle.roc_sequence.specs.Rising.{IsRising}
-use Rattle.roc_base.specs.TxnId.{txn_lt}
-use Rattle.roc_server_taken.specs.declared.components.Component.{Component}
 use Rattle.roc_server_taken.specs.Inner.Over.{is_not_ahead}
-use Rattle.roc_server_taken.proofs.Standing.{rising_between}
+use Rattle.roc_server_taken.proofs.Rising.{rising_between}
 use Rattle.roc_server_taken.proofs.components.put.Goals as goal
 
 pub returns-clause-rising : goal.returns-clause-rising
@@ -16,5 +13,4 @@ returns-clause-rising c =
     let made : c.insert.new.self.items ≡ insert old at x = rw c.unwrap.ensures at c.insert.ensures.items in
     subst (IsRising is_not_ahead) (sym made)
     (rising_between x (take at old) (drop at old) (subst (IsRising is_not_ahead) (sym (take-append-drop at old)) c.requires.rising)
-    (subst (λ (cs : List Component). AllByRecursion (λ (d : Component). txn_lt d.under x.under ≡ true) (take at cs)) c.deref.ensures.value c.count_before-at.ensures.before)
-    (subst (λ (cs : List Component). AllByRecursion (λ (d : Component). txn_lt d.under x.under ≡ false) (drop at cs)) c.deref.ensures.value c.count_before-at.ensures.behind))
+    c.count_before-at.ensures.before c.count_before-at.ensures.behind)

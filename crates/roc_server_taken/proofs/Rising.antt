@@ -1,5 +1,5 @@
--- Components that rise by the members under which they stand
-use Rattle.std.proofs.Common.{◌≡◌, ◌<◌, ◌≤◌, ℕ, zero, suc, true, false, not, List, [], ◌∷◌, ◌++◌, length, take, drop, get_or, refl, ap, inl, inr, arith}
+-- Components that rise by the members under which they stand, and what comes first of them
+use Rattle.std.proofs.Common.{◌≡◌, ◌<◌, ◌≤◌, ◌∙◌, ℕ, zero, suc, Bool, true, false, cond, not, List, [], ◌∷◌, ◌++◌, length, filter, take, drop, get_or, refl, sym, ap, inl, inr, arith}
 use Rattle.std.proofs.lemmas.Bool.Decides.{nat_tests}
 use Rattle.std.specs.List.{AllByRecursion, AllWithin}
 use Rattle.std.specs.List.Sorted.{IsPartitionedBy}
@@ -28,27 +28,38 @@ pub rising_without : (c : Component) (xs ys : List Component) → IsRising is_no
 rising_without c [] ys r = r.1
 rising_without c (a ∷ xs) ys r = ((from_all_between (λ (y : Component). is_not_ahead a y ≡ true) c xs ys r.0).1, rising_without c xs ys r.1)
 
-pub rising_drop : (cs : List Component) (i : ℕ) → IsRising is_not_ahead cs → IsRising is_not_ahead (drop i cs)
-rising_drop cs zero r = r
-rising_drop [] (suc i) r = tt
-rising_drop (c ∷ cs) (suc i) r = rising_drop cs i r.1
+-- ---- those that pass a test, before those that do not
 
--- ---- those before an id, and those that are not
+module _ (p : Component → Bool) (P : Component → Type 0) (through : (a b : Component) → P a → is_not_ahead a b ≡ true → p b ≡ true → p a ≡ true) where
+  pub parted : (cs : List Component) → IsRising is_not_ahead cs → AllByRecursion P cs → IsPartitionedBy p cs
+  parted [] r h i j d le lt e = absurd (omega arith)
+  parted (c ∷ cs) r h zero zero d le lt e = e
+  parted (c ∷ cs) r h zero (suc j) d le lt e = through c (get_or cs j d) h.0 (later cs j r.0 (omega arith)) e
+    where
+      later : (cs : List Component) (j : ℕ) → AllByRecursion (λ (b : Component). is_not_ahead c b ≡ true) cs → j < length cs → is_not_ahead c (get_or cs j d) ≡ true
+      later [] j a lt = absurd (omega arith)
+      later (b ∷ ys) zero a lt = a.0
+      later (b ∷ ys) (suc j) a lt = later ys j a.1 (omega arith)
+  parted (c ∷ cs) r h (suc i) zero d le lt e = absurd (omega arith)
+  parted (c ∷ cs) r h (suc i) (suc j) d le lt e = parted cs r.1 h.1 i j d (omega arith) (omega arith) e
 
-lt_through : (a b id : TxnId) → not (txn_lt b a) ≡ true → txn_lt b id ≡ true → txn_lt a id ≡ true
-lt_through a b id h k = grind (arith, nat_tests)
+module _ {A : Type 0} (p : A → Bool) where
+  none_pass : (xs : List A) → AllByRecursion (λ x. p x ≡ false) xs → filter p xs ≡ []
+  none_pass [] h = refl
+  none_pass (x ∷ xs) h = ap (λ b. cond b (x ∷ filter p xs) (filter p xs)) h.0 ∙ none_pass xs h.1
 
-pub parted : (id : TxnId) (cs : List Component) → IsRising is_not_ahead cs → IsPartitionedBy (λ (c : Component). txn_lt c.under id) cs
-parted id [] r i j d le lt e = absurd (omega arith)
-parted id (c ∷ cs) r zero zero d le lt e = e
-parted id (c ∷ cs) r zero (suc j) d le lt e = lt_through c.under (get_or cs j d).under id (later cs j r.0 (omega arith)) e
+  -- the front of a list is what passes
+  pub front_passes : (xs : List A) (n : ℕ) → AllByRecursion (λ x. p x ≡ true) (take n xs) → AllByRecursion (λ x. p x ≡ false) (drop n xs) → take n xs ≡ filter p xs
+  front_passes xs zero a h = sym (none_pass xs h)
+  front_passes [] (suc n) a h = refl
+  front_passes (x ∷ xs) (suc n) a h = ap (λ l. x ∷ l) (front_passes xs n a.1 h) ∙ sym (ap (λ b. cond b (x ∷ filter p xs) (filter p xs)) a.0)
+
+-- of two, where the one behind comes before an id the other does
+pub before_through : (id : TxnId) (a b : Component) → is_not_ahead a b ≡ true → txn_lt b.under id ≡ true → txn_lt a.under id ≡ true
+before_through id a b h k = lt_through a.under b.under id h k
   where
-    later : (cs : List Component) (j : ℕ) → AllByRecursion (λ (b : Component). is_not_ahead c b ≡ true) cs → j < length cs → is_not_ahead c (get_or cs j d) ≡ true
-    later [] j a lt = absurd (omega arith)
-    later (b ∷ ys) zero a lt = a.0
-    later (b ∷ ys) (suc j) a lt = later ys j a.1 (omega arith)
-parted id (c ∷ cs) r (suc i) zero d le lt e = absurd (omega arith)
-parted id (c ∷ cs) r (suc i) (suc j) d le lt e = parted id cs r.1 i j d (omega arith) (omega arith) e
+    lt_through : (a b id : TxnId) → not (txn_lt b a) ≡ true → txn_lt b id ≡ true → txn_lt a id ≡ true
+    lt_through a b id h k = grind (arith, nat_tests)
 
 module _ {A : Type 0} (P : A → Type 0) where
   pub all_front : (xs : List A) (i : ℕ) → i ≤ length xs → AllWithin P xs 0 i → AllByRecursion P (take i xs)
