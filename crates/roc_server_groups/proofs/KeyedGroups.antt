@@ -16,11 +16,8 @@ use Rattle.roc_base.specs.TxnId.{is_txn}
 use Rattle.roc_server_groups.specs.declared.group_key.GroupKey.{GroupKey}
 use Rattle.roc_step.specs.declared.started.StartedGroup.{StartedGroup}
 use Rattle.roc_step.specs.State.{is_group, is_here}
-use Rattle.roc_server_groups.specs.Inner.Keyed.{AreKeyed, HaveNumbersBelow, IsOnceHere, group_key_of}
+use Rattle.roc_server_groups.specs.Inner.Keyed.{AreKeyed, HaveNumbersBelow, IsOnceHere, group_key_of, is_key}
 use Rattle.roc_server_groups.proofs.Placed.{position-map, position-same}
-
-abbrev pub is_key : GroupKey → GroupKey → Bool
-is_key a b = is_txn a.id b.id && a.number == b.number
 
 -- ---- under their keys
 

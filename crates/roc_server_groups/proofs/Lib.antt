@@ -5,6 +5,7 @@ mod FirstGroups
 mod GroupRuns
 pub mod IndexSteps
 mod KeyedGroups
+mod LeftOut
 pub mod Pairs
 mod Placed
 pub mod Restored

@@ -5,8 +5,10 @@ ghost use Rattle.std.specs.List.Sorted.{IsStrictlySortedBy};
 ghost use Rattle.roc_base.specs.TxnId.{is_txn, txn_cmp};
 ghost use Rattle.roc_sequence.specs.Places.{is_listed};
 ghost use Rattle.roc_step.specs.declared.started.StartedGroup.{StartedGroup as Group};
+ghost use Rattle.roc_sequence.specs.Lists.{Has};
+ghost use Rattle.roc_server_groups.specs.declared.group_key.GroupKey.{GroupKey as Key};
 ghost use Rattle.roc_server_groups.specs.GroupsNow.{groups_without};
-ghost use Rattle.roc_server_groups.specs.Inner.Keyed.{HaveNumbersBelow, AreFirsts, AreKeyed, IsOnceHere, group_key_of};
+ghost use Rattle.roc_server_groups.specs.Inner.Keyed.{HaveNumbersBelow, AreFirsts, AreKeyed, IsOnceHere, group_key_of, is_key};
 ghost use Rattle.roc_step.specs.State.{find_group, is_group, is_here};
 
 use crate::group_key::GroupKey;
@@ -87,12 +89,12 @@ impl StartedGroups {
         put(&mut self.groups, &mut self.numbers, group);
     }
 
-    // Forgets the groups of these transactions, which rise. Takes no memory. It goes through all groups once, however few go.
+    // Forgets the groups of these transactions, which rise. Takes no memory. What stands behind them moves, or all groups are gone through once, whichever is less.
     pub(crate) fn forget(&mut self, ids: &[TxnId])
         requires { IsStrictlySortedBy txn_cmp ids.now }
         ensures { self.new.groups ≡ filter (λ e. not (is_listed is_txn ids.now e.id)) self.old.groups }
     {
-        keep_others(&mut self.groups, ids);
+        leave_others(&mut self.groups, self.numbers, ids);
         keep_other_firsts(&mut self.firsts, ids);
     }
 
@@ -160,6 +162,66 @@ fn put(groups: &mut IndexMap<GroupKey, StartedGroup>, numbers: &mut usize, group
 }
 
 // The groups of other transactions than these, which rise, stay.
+fn leave_others(groups: &mut IndexMap<GroupKey, StartedGroup>, numbers: usize, ids: &[TxnId])
+    requires rising { IsStrictlySortedBy txn_cmp ids.now }
+    requires below { (k : Key) → Has k (keys groups.old) → k.number < numbers }
+    ensures entries { groups.new.entries ≡ filter (λ e. not (is_listed is_txn ids.now e.0.id)) groups.old.entries }
+{
+    if are_near_end(groups, numbers, ids) {
+        take_out_each(groups, numbers, ids);
+        return;
+    }
+    keep_others(groups, ids);
+}
+
+// Whether few groups stand behind those of these transactions, so that it takes less to move them than to go through all. It says only what is cheaper.
+fn are_near_end(groups: &IndexMap<GroupKey, StartedGroup>, numbers: usize, ids: &[TxnId]) -> bool {
+    let few = groups.len() / 16;
+    let mut behind: usize = 0;
+    for id in ids {
+        for number in 0..numbers {
+            let key = GroupKey { id: *id, number };
+            if let Some(at) = groups.get_index_of(&key) {
+                behind = behind.saturating_add(groups.len() - at);
+            }
+        }
+        if few < behind {
+            return false;
+        }
+    }
+    true
+}
+
+// Takes out the groups of transactions one by one. What stands behind them moves.
+fn take_out_each(groups: &mut IndexMap<GroupKey, StartedGroup>, numbers: usize, ids: &[TxnId])
+    requires { (k : Key) → Has k (keys groups.old) → k.number < numbers }
+    ensures { groups.new.entries ≡ filter (λ e. not (is_listed is_txn ids.now e.0.id)) groups.old.entries }
+{
+    for id in ids {
+        take_out_of(groups, numbers, *id);
+    }
+}
+
+// Takes out the groups of a transaction.
+fn take_out_of(groups: &mut IndexMap<GroupKey, StartedGroup>, numbers: usize, id: TxnId)
+    requires { (k : Key) → Has k (keys groups.old) → k.number < numbers }
+    ensures { groups.new.entries ≡ filter (λ e. not (is_txn e.0.id id)) groups.old.entries }
+{
+    for number in 0..numbers {
+        take_out_one(groups, &GroupKey { id, number });
+    }
+}
+
+// Takes out the group of a key, where there is one.
+fn take_out_one(groups: &mut IndexMap<GroupKey, StartedGroup>, key: &GroupKey)
+    ensures { groups.new.entries ≡ filter (λ e. not (is_key key.now e.0)) groups.old.entries }
+{
+    if groups.get_index_of(key).is_some() {
+        groups.shift_remove(key);
+    }
+}
+
+// The groups of other transactions than these, which rise, stay. All are gone through.
 fn keep_others(groups: &mut IndexMap<GroupKey, StartedGroup>, ids: &[TxnId])
     requires { IsStrictlySortedBy txn_cmp ids.now }
     ensures entries { groups.new.entries ≡ filter (λ e. not (is_listed is_txn ids.now e.0.id)) groups.old.entries }

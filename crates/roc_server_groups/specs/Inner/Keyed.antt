@@ -1,5 +1,5 @@
 -- Groups that are found by their transactions and numbers
-use Rattle.std.specs.Prelude.{◌≡◌, ◌<◌, ℕ, List, map, find, IsTrue}
+use Rattle.std.specs.Prelude.{◌≡◌, ◌<◌, ◌==◌, ◌&&◌, ℕ, Bool, List, map, find, IsTrue}
 use Rattle.std.specs.Map.{keys_of, lookup, values_of}
 use Rattle.std.specs.Option.{option_map}
 use Rattle.roc_sequence.specs.Lists.{Has}
@@ -8,6 +8,9 @@ use Rattle.roc_base.specs.TxnId.{is_txn}
 use Rattle.roc_server_groups.specs.declared.group_key.GroupKey.{GroupKey}
 use Rattle.roc_step.specs.declared.started.StartedGroup.{StartedGroup}
 use Rattle.roc_step.specs.State.{is_group}
+
+abbrev pub is_key : GroupKey → GroupKey → Bool
+is_key a b = is_txn a.id b.id && a.number == b.number
 
 abbrev pub group_key_of : StartedGroup → GroupKey
 group_key_of e = record { id = e.id; number = e.group }

@@ -2,7 +2,8 @@ use Rattle.std.proofs.Common.{◌≡◌, ◌∙◌, ◌+◌, ◌<◌, ◌≤◌,
 use Rattle.std.specs.Map.{lookup}
 use Rattle.indexmap.proofs.CallerLemmas.{insert_entry-new}
 use Rattle.roc_server_groups.specs.Inner.Keyed.{group_key_of}
-use Rattle.roc_server_groups.proofs.KeyedGroups.{is_key, lookup_is, keyed_more, values_more}
+use Rattle.roc_server_groups.proofs.KeyedGroups.{lookup_is, keyed_more, values_more}
+use Rattle.roc_server_groups.specs.Inner.Keyed.{is_key}
 use Rattle.roc_server_groups.proofs.started_groups.put.Goals as goal
 
 pub returns-then-numbers-number-clause-keyed : goal.returns-then-numbers-number-clause-keyed

@@ -10,15 +10,15 @@ use Rattle.roc_server_groups.proofs.KeyedGroups.{keyed_some, values_some}
 use Rattle.roc_server_groups.proofs.started_groups.StartedGroups.forget.Goals as goal
 use Rattle.roc_server_groups.proofs.started_groups.StartedGroups.forget.Goals.{After-keep_other_firsts}
 
-left : (c : After-keep_other_firsts) → values_of c.keep_others.new.groups.entries ≡ groups_without c.args.ids.now (values_of c.self.inside.groups.entries)
+left : (c : After-keep_other_firsts) → values_of c.leave_others.new.groups.entries ≡ groups_without c.args.ids.now (values_of c.self.inside.groups.entries)
 left c =
-    ap values_of c.keep_others.ensures.entries ∙ values_some (λ (u : TxnId). not (is_listed is_txn c.args.ids.now u)) c.self.inside.groups.entries c.self.invariant.keyed.keys
+    ap values_of c.leave_others.ensures.entries ∙ values_some (λ (u : TxnId). not (is_listed is_txn c.args.ids.now u)) c.self.inside.groups.entries c.self.invariant.keyed.keys
 
 pub invariant_of-self : goal.invariant_of-self
 invariant_of-self c =
     let was = c.self.inside in
     record {
-      keyed = subst (λ es. AreKeyed es was.numbers) (sym c.keep_others.ensures.entries)
+      keyed = subst (λ es. AreKeyed es was.numbers) (sym c.leave_others.ensures.entries)
           (keyed_some (λ (u : TxnId). not (is_listed is_txn c.args.ids.now u)) was.groups.entries was.numbers c.self.invariant.keyed);
       first = subst (AreFirsts c.keep_other_firsts.new.firsts.entries) (sym (left c)) (c.keep_other_firsts.ensures (values_of was.groups.entries) c.self.invariant.first);
     }
